@@ -1,0 +1,3 @@
+pub mod Benchmarks
+pub mod Dated
+pub mod Refusals

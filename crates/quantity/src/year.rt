@@ -1,0 +1,27 @@
+ghost use mathlib.Core.Path.{_≡_};
+ghost use Rattle.quantity.specs.Benchmarks.{daysIn, scale};
+
+// The days that a benchmark counts to a year, N.
+#[derive(Clone, Copy, PartialEq, Eq, Debug)]
+pub enum YearBase {
+    Days360,
+    Days365,
+}
+
+impl YearBase {
+    pub fn days(self) -> u32
+        ensures { λ r. ⌜ r ≡ daysIn self ⌝ }
+    {
+        match self {
+            YearBase::Days360 => 360,
+            YearBase::Days365 => 365,
+        }
+    }
+
+    // B, N times 10^6: one tick of rate over one day adds 1/B to the factor.
+    pub fn scale(self) -> u32
+        ensures { λ r. ⌜ r ≡ scale self ⌝ }
+    {
+        self.days() * 1_000_000
+    }
+}

@@ -1,0 +1,10 @@
+pub mod Core
+pub mod Whole
+pub mod Sound
+pub mod Runs
+pub mod Reach
+pub mod Nearest
+pub mod Exact
+pub mod Prefix
+pub mod Laws
+pub mod Accrued

@@ -1,0 +1,5 @@
+pub mod Rounding
+pub mod Reach
+pub mod Accrual
+pub mod Chosen
+pub mod Rate
