@@ -6,7 +6,7 @@ ghost use Rattle.quantity.specs.Refusals.{told, plain};
 use crate::refusal::Refusal;
 
 // The amount in cents that interest is calculated on, from 1 to 1,000,000,000.
-#[derive(Clone, Copy, PartialEq, Eq, Debug)]
+#[derive(Clone, Copy)]
 pub struct CalculationAmount {
     cents: u32,
     ghost least: { 1 ≤ cents },

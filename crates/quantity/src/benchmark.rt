@@ -14,7 +14,7 @@ use crate::refusal::Refusal;
 use crate::year::YearBase;
 
 // A benchmark as files and terms name it.
-#[derive(Clone, Copy, PartialEq, Eq, Debug)]
+#[derive(Clone, Copy)]
 pub enum BenchmarkCode {
     Sofr,
     Sonia,

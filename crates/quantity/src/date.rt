@@ -6,7 +6,7 @@ use crate::days::DayCount;
 pub mod made;
 
 // A Gregorian day number: 0 is 2000-01-01, a Saturday, and 73,048 is 2199-12-31.
-#[derive(Clone, Copy, PartialEq, Eq, Debug)]
+#[derive(Clone, Copy)]
 pub struct Date {
     number: u32,
     ghost known: { number ≤ 73048 },

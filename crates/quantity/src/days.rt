@@ -1,7 +1,7 @@
 ghost use mathlib.Core.Path.{_≡_};
 
 // A number of calendar days.
-#[derive(Clone, Copy, PartialEq, Eq, Debug)]
+#[derive(Clone, Copy)]
 pub struct DayCount {
     days: u32,
 }

@@ -1,13 +1,9 @@
 ghost use mathlib.Core.Path.{_≡_};
 ghost use Rattle.quantity.specs.Refusals.{faulted};
 use crate::date::Date;
-use crate::date::DateDebug;
-use crate::date::DatePartialEq;
 use crate::position::Position;
-use crate::position::PositionDebug;
-use crate::position::PositionPartialEq;
 
-#[derive(Clone, Copy, PartialEq, Eq, Debug)]
+#[derive(Clone, Copy)]
 pub enum Cause {
     // the position lies outside the pile
     Outside,
@@ -17,7 +13,7 @@ pub enum Cause {
 
 // Why a pile of observations has no answer: the cause, the position put to the layer where it arose,
 // and the number of layers above that layer, 255 if more.
-#[derive(Clone, Copy, PartialEq, Eq, Debug)]
+#[derive(Clone, Copy)]
 pub struct Fault {
     pub cause: Cause,
     pub position: Position,

@@ -7,7 +7,7 @@ ghost use Rattle.quantity.specs.Refusals.{told, plain};
 use crate::refusal::Refusal;
 
 // A margin over the reported rate, in places of 10^-7, from -1,000,000 to 1,000,000.
-#[derive(Clone, Copy, PartialEq, Eq, Debug)]
+#[derive(Clone, Copy)]
 pub struct Margin {
     places: i32,
     ghost least: { negsuc 999999 ≤ℤ places },

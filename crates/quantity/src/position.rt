@@ -8,13 +8,13 @@ ghost use Rattle.quantity.specs.Refusals.{told, plain};
 use crate::refusal::Refusal;
 
 // A signed count of good days from the period's first day, which is position 0.
-#[derive(Clone, Copy, PartialEq, Eq, Debug)]
+#[derive(Clone, Copy)]
 pub struct Position {
     value: i32,
 }
 
 // A lag, a shift or a lockout: a number of positions, 0 to 20.
-#[derive(Clone, Copy, PartialEq, Eq, Debug)]
+#[derive(Clone, Copy)]
 pub struct Offset {
     count: u8,
     ghost few: { count ≤ 20 },

@@ -7,7 +7,7 @@ ghost use Rattle.quantity.specs.Refusals.{told, plain};
 use crate::refusal::Refusal;
 
 // A rate in ticks of 10^-6, from -250,000 to 250,000.
-#[derive(Clone, Copy, PartialEq, Eq, Debug)]
+#[derive(Clone, Copy)]
 pub struct Rate {
     ticks: i32,
     ghost least: { negsuc 249999 ≤ℤ ticks },

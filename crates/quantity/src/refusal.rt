@@ -3,10 +3,9 @@ ghost use mathlib.Core.Path.{_≡_};
 ghost use Prim.Native.Nat.{_≤_};
 ghost use Rattle.quantity.specs.Refusals.{told};
 use crate::fault::Fault;
-use crate::fault::FaultDebug;
 use std::fmt;
 
-#[derive(Clone, Copy, Debug)]
+#[derive(Clone, Copy)]
 pub enum Refusal {
     // the field at an offset is cut short or not due there, or its count is false
     Malformed(usize),

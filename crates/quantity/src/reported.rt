@@ -5,7 +5,7 @@ ghost use lib.Signed.{_≤ℤ_, _<ℤ_};
 ghost use Rattle.std.specs.Options.{Cases};
 
 // A reported rate in places of 10^-7, within 3,660,000,000 of 0: no bounds of a coupon give a greater one.
-#[derive(Clone, Copy, PartialEq, Eq, Debug)]
+#[derive(Clone, Copy)]
 pub struct ReportedRate {
     places: i64,
     ghost least: { negsuc 3659999999 ≤ℤ places },

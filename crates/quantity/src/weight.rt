@@ -7,7 +7,7 @@ use crate::days::DayCount;
 use crate::refusal::Refusal;
 
 // The days that one observation counts for, 1 to 15.
-#[derive(Clone, Copy, PartialEq, Eq, Debug)]
+#[derive(Clone, Copy)]
 pub struct Weight {
     days: u32,
     ghost least: { 1 ≤ days },
@@ -15,7 +15,7 @@ pub struct Weight {
 }
 
 // The sum of the weights of a coupon's observations, at most 400.
-#[derive(Clone, Copy, PartialEq, Eq, Debug)]
+#[derive(Clone, Copy)]
 pub struct TotalWeight {
     days: u32,
     ghost most: { days ≤ 400 },

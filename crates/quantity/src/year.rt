@@ -2,7 +2,7 @@ ghost use mathlib.Core.Path.{_≡_};
 ghost use Rattle.quantity.specs.Benchmarks.{daysIn, scale};
 
 // The days that a benchmark counts to a year, N.
-#[derive(Clone, Copy, PartialEq, Eq, Debug)]
+#[derive(Clone, Copy)]
 pub enum YearBase {
     Days360,
     Days365,

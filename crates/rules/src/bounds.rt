@@ -10,7 +10,7 @@ pub const UNIT: i64 = 1_000_000_000_000;
 const REACH: i64 = 2_000_000_001_200;
 
 // A lower and an upper bound of a factor, in units of 10^-12.
-#[derive(Clone, Copy, PartialEq, Eq, Debug)]
+#[derive(Clone, Copy)]
 pub struct Bounds {
     pub lo: i64,
     pub hi: i64,

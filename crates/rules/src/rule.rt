@@ -119,7 +119,7 @@ pub impl AccrualRule for Simple as SimpleRule {
 }
 
 // The rule that a coupon's terms name.
-#[derive(Clone, Copy, PartialEq, Eq, Debug)]
+#[derive(Clone, Copy)]
 pub enum Rule {
     Compounded,
     Simple,

@@ -1,0 +1,42 @@
+// Words and lines of the input.
+use quantity::benchmark::BenchmarkCode;
+use quantity::days::DayCount;
+use quantity::refusal::Refusal;
+use quantity::weight::Weight;
+use rules::observation::Observation;
+use rules::rule::Rule;
+
+pub fn benchmark_of(word: &str) -> Option<BenchmarkCode> {
+    match word {
+        "SOFR" => Some(BenchmarkCode::Sofr),
+        "SONIA" => Some(BenchmarkCode::Sonia),
+        "ESTR" => Some(BenchmarkCode::Estr),
+        _ => None,
+    }
+}
+
+pub fn rule_of(word: &str) -> Option<Rule> {
+    match word {
+        "compounded" => Some(Rule::Compounded),
+        "simple" => Some(Rule::Simple),
+        _ => None,
+    }
+}
+
+// A line as an observation of the benchmark's published rates: ticks, then days. The offset is that of the line's first byte.
+pub fn observation_in(
+    line: &str,
+    offset: usize,
+    benchmark: BenchmarkCode,
+) -> Result<Observation, Refusal> {
+    let mut words = line.split_whitespace();
+    let (Some(ticks), Some(days), None) = (words.next(), words.next(), words.next()) else {
+        return Err(Refusal::Malformed(offset));
+    };
+    let (Ok(ticks), Ok(days)) = (ticks.parse::<i32>(), days.parse::<u32>()) else {
+        return Err(Refusal::Malformed(offset));
+    };
+    let rate = benchmark.published(ticks)?;
+    let weight = Weight::new(DayCount::new(days))?;
+    Ok(Observation { rate, weight })
+}
