@@ -33,10 +33,16 @@ pub fn observation_in(
     let (Some(ticks), Some(days), None) = (words.next(), words.next(), words.next()) else {
         return Err(Refusal::Malformed(offset));
     };
-    let (Ok(ticks), Ok(days)) = (ticks.parse::<i32>(), days.parse::<u32>()) else {
+    let (Ok(ticks), Ok(days)) = (ticks.parse::<i64>(), days.parse::<i64>()) else {
         return Err(Refusal::Malformed(offset));
     };
+    let Ok(ticks) = i32::try_from(ticks) else {
+        return Err(Refusal::OutOfRange);
+    };
     let rate = benchmark.published(ticks)?;
+    let Ok(days) = u32::try_from(days) else {
+        return Err(Refusal::OutOfLimits);
+    };
     let weight = Weight::new(DayCount::new(days))?;
     Ok(Observation { rate, weight })
 }

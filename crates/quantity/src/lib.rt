@@ -10,5 +10,6 @@ pub mod position;
 pub mod rate;
 pub mod refusal;
 pub mod reported;
+pub mod total;
 pub mod weight;
 pub mod year;

@@ -1,4 +1,5 @@
 ghost use mathlib.Core.Path.{_≡_};
+ghost use Prim.Native.Nat.{_*_, _^_};
 ghost use Rattle.quantity.specs.Benchmarks.{daysIn, scale};
 
 // The days that a benchmark counts to a year, N.
@@ -20,7 +21,8 @@ impl YearBase {
 
     // B, N times 10^6: one tick of rate over one day adds 1/B to the factor.
     pub fn scale(self) -> u32
-        ensures { λ r. ⌜ r ≡ scale self ⌝ }
+        ensures value { λ r. ⌜ r ≡ scale self ⌝ }
+        ensures law { λ _. ⌜ scale self ≡ daysIn self * 10 ^ 6 ⌝ }
     {
         self.days() * 1_000_000
     }

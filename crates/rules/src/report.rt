@@ -17,7 +17,7 @@ use quantity::amount::CalculationAmount;
 use quantity::days::DayCount;
 use quantity::margin::Margin;
 use quantity::reported::ReportedRate;
-use quantity::weight::TotalWeight;
+use quantity::total::TotalWeight;
 use quantity::year::YearBase;
 
 // A reported rate, settled where both bounds give it.

@@ -15,7 +15,7 @@ use crate::report::Report;
 use crate::report::reported;
 use crate::rule::AccrualRule;
 use quantity::refusal::Refusal;
-use quantity::weight::TotalWeight;
+use quantity::total::TotalWeight;
 use quantity::year::YearBase;
 
 // What a rule gives over some observations: their number and weight, the bounds of the factor, and the rate, which no observations have not.
