@@ -37,7 +37,7 @@ impl Date {
     pub fn plus(self, days: DayCount) -> Option<Date>
         ensures { λ r. ⌜ Cases r (73048 < self .number + days .days) (λ d. d .number ≡ self .number + days .days) ⌝ }
     {
-        let days = days.days();
+        let days = days.number();
         if days > Self::LAST - self.number {
             return None;
         }
@@ -50,7 +50,7 @@ impl Date {
     pub fn minus(self, days: DayCount) -> Option<Date>
         ensures { λ r. ⌜ Cases r (self .number < days .days) (λ d. d .number + days .days ≡ self .number) ⌝ }
     {
-        let days = days.days();
+        let days = days.number();
         if self.number < days {
             return None;
         }

@@ -13,7 +13,7 @@ impl DayCount {
         DayCount { days }
     }
 
-    pub fn days(self) -> u32
+    pub fn number(self) -> u32
         ensures { λ r. ⌜ r ≡ self .days ⌝ }
     {
         self.days

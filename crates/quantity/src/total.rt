@@ -25,7 +25,7 @@ impl TotalWeight {
     pub fn new(days: DayCount) -> Result<TotalWeight, Refusal>
         ensures { λ r. ⌜ Cases r (λ t. t .days ≡ days .days) (λ e. (400 < days .days) × (told e ≡ plain 17)) ⌝ }
     {
-        let days = days.days();
+        let days = days.number();
         if days > 400 {
             return Err(Refusal::TooHeavy);
         }
@@ -36,13 +36,13 @@ impl TotalWeight {
     pub fn plus(self, weight: Weight) -> Result<TotalWeight, Refusal>
         ensures { λ r. ⌜ Cases r (λ t. t .days ≡ self .days + weight .days) (λ e. (400 < self .days + weight .days) × (told e ≡ plain 17)) ⌝ }
     {
-        Self::new(DayCount::new(self.days + weight.days()))
+        Self::new(DayCount::new(self.days + weight.days().number()))
     }
 
-    pub fn days(self) -> u32
-        ensures value { λ r. ⌜ r ≡ self .days ⌝ }
-        ensures most { λ r. ⌜ r ≤ 400 ⌝ }
+    pub fn days(self) -> DayCount
+        ensures value { λ r. ⌜ r .days ≡ self .days ⌝ }
+        ensures most { λ r. ⌜ r .days ≤ 400 ⌝ }
     {
-        self.days
+        DayCount::new(self.days)
     }
 }

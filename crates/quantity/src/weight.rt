@@ -19,18 +19,18 @@ impl Weight {
     pub fn new(days: DayCount) -> Result<Weight, Refusal>
         ensures { λ r. ⌜ Cases r (λ w. w .days ≡ days .days) (λ e. ((days .days < 1) ⊎ (15 < days .days)) × (told e ≡ plain 10)) ⌝ }
     {
-        let days = days.days();
+        let days = days.number();
         if days < 1 || days > 15 {
             return Err(Refusal::OutOfLimits);
         }
         Ok(Weight { days })
     }
 
-    pub fn days(self) -> u32
-        ensures value { λ r. ⌜ r ≡ self .days ⌝ }
-        ensures least { λ r. ⌜ 1 ≤ r ⌝ }
-        ensures most { λ r. ⌜ r ≤ 15 ⌝ }
+    pub fn days(self) -> DayCount
+        ensures value { λ r. ⌜ r .days ≡ self .days ⌝ }
+        ensures least { λ r. ⌜ 1 ≤ r .days ⌝ }
+        ensures most { λ r. ⌜ r .days ≤ 15 ⌝ }
     {
-        self.days
+        DayCount::new(self.days)
     }
 }

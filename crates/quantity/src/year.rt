@@ -1,6 +1,7 @@
 ghost use mathlib.Core.Path.{_≡_};
 ghost use Prim.Native.Nat.{_*_, _^_};
 ghost use Rattle.quantity.specs.Benchmarks.{daysIn, scale};
+use crate::days::DayCount;
 
 // The days that a benchmark counts to a year, N.
 #[derive(Clone, Copy)]
@@ -10,12 +11,12 @@ pub enum YearBase {
 }
 
 impl YearBase {
-    pub fn days(self) -> u32
-        ensures { λ r. ⌜ r ≡ daysIn self ⌝ }
+    pub fn days(self) -> DayCount
+        ensures { λ r. ⌜ r .days ≡ daysIn self ⌝ }
     {
         match self {
-            YearBase::Days360 => 360,
-            YearBase::Days365 => 365,
+            YearBase::Days360 => DayCount::new(360),
+            YearBase::Days365 => DayCount::new(365),
         }
     }
 
@@ -24,6 +25,6 @@ impl YearBase {
         ensures value { λ r. ⌜ r ≡ scale self ⌝ }
         ensures law { λ _. ⌜ scale self ≡ daysIn self * 10 ^ 6 ⌝ }
     {
-        self.days() * 1_000_000
+        self.days().number() * 1_000_000
     }
 }

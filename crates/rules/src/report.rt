@@ -32,7 +32,7 @@ fn excess(base: YearBase, bound: i64) -> i128
     requires { ⌜ isInReach bound ≡ true ⌝ }
     ensures { λ r. ⌜ r ≡ (bound -ℤ pos unit) *ℤ pos (daysIn base) ⌝ }
 {
-    i128::from(bound - UNIT) * i128::from(base.days())
+    i128::from(bound - UNIT) * i128::from(base.days().number())
 }
 
 // The rate of one bound, in places.
@@ -42,7 +42,10 @@ fn places_of(base: YearBase, weight: TotalWeight, bound: i64) -> i64
     ensures value { λ r. ⌜ r ≡ rateOf base (weight .days) bound ⌝ }
     ensures small { λ r. ⌜ negsuc 3659999999 ≤ℤ r ⌝ ∗ ⌜ r ≤ℤ pos 3660000000 ⌝ }
 {
-    nearest_div(excess(base, bound), 100_000 * u64::from(weight.days())) as i64
+    nearest_div(
+        excess(base, bound),
+        100_000 * u64::from(weight.days().number()),
+    ) as i64
 }
 
 fn rate_of(base: YearBase, weight: TotalWeight, bound: i64) -> ReportedRate
@@ -60,7 +63,7 @@ fn rate_of(base: YearBase, weight: TotalWeight, bound: i64) -> ReportedRate
 pub fn reported(base: YearBase, weight: TotalWeight, bounds: ModerateBounds) -> Option<Report>
     ensures { λ r. ⌜ Cases r (weight .days ≡ 0) (λ p. (0 < weight .days) × Reports base (weight .days) (bounds .bounds) p) ⌝ }
 {
-    if weight.days() == 0 {
+    if weight.days().number() == 0 {
         return None;
     }
     let Bounds { lo, hi } = bounds.bounds();
@@ -85,7 +88,7 @@ fn interest(principal: CalculationAmount, rate: i64, days: DayCount) -> i128
     requires { ⌜ negsuc 3660999999 ≤ℤ rate ⌝ ∗ ⌜ rate ≤ℤ pos 3661000000 ⌝ }
     ensures { λ r. ⌜ r ≡ (pos (principal .cents) *ℤ rate) *ℤ pos (days .days) ⌝ }
 {
-    i128::from(principal.cents()) * i128::from(rate) * i128::from(days.days())
+    i128::from(principal.cents()) * i128::from(rate) * i128::from(days.number())
 }
 
 // The interest in cents on a principal over so many days, at a reported rate and a margin.
@@ -101,5 +104,5 @@ pub fn amount(
     ensures small { λ r. ⌜ SmallAmount r ⌝ }
 {
     let due = interest(principal, all_in_rate(rate, margin), days);
-    nearest_div(due, u64::from(base.days()) * 10_000_000) as i64
+    nearest_div(due, u64::from(base.days().number()) * 10_000_000) as i64
 }

@@ -43,7 +43,7 @@ fn gain_of(seen: Observation) -> i64
     ensures value { λ r. ⌜ r ≡ gain seen ⌝ }
     ensures small { λ r. ⌜ SmallGain r ⌝ }
 {
-    i64::from(seen.rate.ticks()) * i64::from(seen.weight.days())
+    i64::from(seen.rate.ticks()) * i64::from(seen.weight.days().number())
 }
 
 // A bound with its part of `of` added, rounded down.

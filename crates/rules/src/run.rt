@@ -18,7 +18,8 @@ use quantity::refusal::Refusal;
 use quantity::total::TotalWeight;
 use quantity::year::YearBase;
 
-// What a rule gives over some observations: their number and weight, the bounds of the factor, and the rate, which no observations have not.
+// What a rule gives over some observations: their number and weight, the bounds of the factor,
+// and the rate, which wants at least one.
 #[derive(Clone, Copy)]
 pub struct Accrual {
     pub count: u32,
@@ -27,7 +28,7 @@ pub struct Accrual {
     pub report: Option<Report>,
 }
 
-// Bounds in reach, as the moderate ones that they are.
+// Bounds within reach, as the type that says so.
 fn moderate(bounds: Bounds) -> ModerateBounds
     requires { ⌜ isInReach (bounds .lo) ≡ true ⌝ ∗ ⌜ isInReach (bounds .hi) ≡ true ⌝ }
     ensures { λ r. ⌜ r .bounds ≡ bounds ⌝ }

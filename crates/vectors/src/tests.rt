@@ -341,7 +341,10 @@ fn limits_of_terms() -> Result<(), Fail> {
 fn benchmarks() -> Result<(), Fail> {
     check_eq(refusal_of(BenchmarkCode::new(0)), 2)?;
     check_eq(refusal_of(BenchmarkCode::new(4)), 2)?;
-    check_eq(made(BenchmarkCode::new(2))?.year_base().days(), 365)?;
+    check_eq(
+        made(BenchmarkCode::new(2))?.year_base().days().number(),
+        365,
+    )?;
     check_eq(refusal_of(BenchmarkCode::Sofr.published(53_150)), 2)?;
     check_eq(refusal_of(BenchmarkCode::Sofr.published(-53_100)), 0)?;
     check_eq(refusal_of(BenchmarkCode::Sonia.published(53_151)), 0)?;
@@ -360,7 +363,7 @@ fn days_between_dates() -> Result<(), Fail> {
     let Some(days) = next.since(start) else {
         return Err(Fail::new("no days"));
     };
-    check_eq(days.days(), 5)?;
+    check_eq(days.number(), 5)?;
     check(start.since(next).is_none())?;
     check(date(73_048)?.plus(DayCount::new(1)).is_none())?;
     check(start.minus(DayCount::new(8_854)).is_none())

@@ -30,7 +30,7 @@ reports base W b lower upper mark some l u m = record {
 
 pub returns : need.returns
 returns c =
-    let some : 0 < c .args .weight .days = omega (arith, c .if-days-eq0 .left) in
+    let some : 0 < c .args .weight .days = omega (arith, c .if-number-eq0 .left) in
     let f : SFits w64 (c .bounds-lo .result .lo) = search needs in
     let g : SFits w64 (c .bounds-lo .result .hi) = search needs in
     let l = simp toZ-ofZ at (c .rate-of-rate .ensures) in
