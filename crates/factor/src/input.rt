@@ -1,4 +1,5 @@
 // Words and lines of the input.
+ghost use Rattle.factor.specs.Observed.{Judged};
 use quantity::benchmark::BenchmarkCode;
 use quantity::days::DayCount;
 use quantity::refusal::Refusal;
@@ -6,7 +7,7 @@ use quantity::weight::Weight;
 use rules::observation::Observation;
 use rules::rule::Rule;
 
-pub fn benchmark_of(word: &str) -> Option<BenchmarkCode> {
+pub(crate) fn benchmark_of(word: &str) -> Option<BenchmarkCode> {
     match word {
         "SOFR" => Some(BenchmarkCode::Sofr),
         "SONIA" => Some(BenchmarkCode::Sonia),
@@ -15,7 +16,7 @@ pub fn benchmark_of(word: &str) -> Option<BenchmarkCode> {
     }
 }
 
-pub fn rule_of(word: &str) -> Option<Rule> {
+pub(crate) fn rule_of(word: &str) -> Option<Rule> {
     match word {
         "compounded" => Some(Rule::Compounded),
         "simple" => Some(Rule::Simple),
@@ -23,12 +24,8 @@ pub fn rule_of(word: &str) -> Option<Rule> {
     }
 }
 
-// A line as an observation of the benchmark's published rates: ticks, then days. The offset is that of the line's first byte.
-pub fn observation_in(
-    line: &str,
-    offset: usize,
-    benchmark: BenchmarkCode,
-) -> Result<Observation, Refusal> {
+// The two numbers of a line, which begins at the offset.
+pub(crate) fn numbers_in(line: &str, offset: usize) -> Result<(i64, i64), Refusal> {
     let mut words = line.split_whitespace();
     let (Some(ticks), Some(days), None) = (words.next(), words.next(), words.next()) else {
         return Err(Refusal::Malformed(offset));
@@ -36,6 +33,17 @@ pub fn observation_in(
     let (Ok(ticks), Ok(days)) = (ticks.parse::<i64>(), days.parse::<i64>()) else {
         return Err(Refusal::Malformed(offset));
     };
+    Ok((ticks, days))
+}
+
+// An observation of one of the benchmark's published rates.
+pub(crate) fn observation_of(
+    benchmark: BenchmarkCode,
+    ticks: i64,
+    days: i64,
+) -> Result<Observation, Refusal>
+    ensures { λ r. ⌜ Judged benchmark ticks days r ⌝ }
+{
     let Ok(ticks) = i32::try_from(ticks) else {
         return Err(Refusal::OutOfRange);
     };

@@ -3,7 +3,8 @@ mod input;
 mod observe;
 
 use crate::input::benchmark_of;
-use crate::input::observation_in;
+use crate::input::numbers_in;
+use crate::input::observation_of;
 use crate::input::rule_of;
 use crate::observe::Failure;
 use crate::observe::observe;
@@ -52,16 +53,20 @@ fn print_refusal(rt: &LibcRuntime, line: usize, refusal: Refusal) -> io::Result<
     println!(rt, "line {line} refused: {refusal}")
 }
 
-// One line of the input; a refused one leaves the observations as they were.
+// One line of the input, by its numbers; a refused one leaves the observations as they were.
 fn take_line(
     rt: &LibcRuntime,
-    benchmark: BenchmarkCode,
-    rule: Rule,
+    terms: (BenchmarkCode, Rule),
     seen: &mut Vec<Observation>,
     number: usize,
-    line: Result<Observation, Refusal>,
+    line: Result<(i64, i64), Refusal>,
 ) -> Result<(), AnyError> {
-    let observation = match line {
+    let (benchmark, rule) = terms;
+    let (ticks, days) = match line {
+        Ok(numbers) => numbers,
+        Err(refusal) => return Ok(print_refusal(rt, number, refusal)?),
+    };
+    let observation = match observation_of(benchmark, ticks, days) {
         Ok(observation) => observation,
         Err(refusal) => return Ok(print_refusal(rt, number, refusal)?),
     };
@@ -76,7 +81,7 @@ fn take_line(
 }
 
 fn run(rt: &LibcRuntime) -> Result<(), AnyError> {
-    let (benchmark, rule) = arguments(rt)?;
+    let terms = arguments(rt)?;
     let text = io::read_to_string(rt.alloc(), rt.stdin().take(65_537))?;
     if text.len() > LIMIT {
         return Err("the input is over 65,536 bytes".into());
@@ -86,8 +91,7 @@ fn run(rt: &LibcRuntime) -> Result<(), AnyError> {
     let mut offset: usize = 0;
     for line in text.as_str().split_inclusive('\n') {
         number = number.saturating_add(1);
-        let observation = observation_in(line, offset, benchmark);
-        take_line(rt, benchmark, rule, &mut seen, number, observation)?;
+        take_line(rt, terms, &mut seen, number, numbers_in(line, offset))?;
         offset = offset.saturating_add(line.len());
     }
     Ok(())

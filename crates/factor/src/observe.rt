@@ -11,13 +11,13 @@ use rules::run::accrued;
 
 // Why an observation is not kept: it is refused, or there is no memory for it.
 #[derive(Clone, Copy)]
-pub enum Failure {
+pub(crate) enum Failure {
     Refused(Refusal),
     NoMemory,
 }
 
 // One observation more: what the rule gives over all of them, or a failure, after which they are as they were.
-pub fn observe(
+pub(crate) fn observe(
     rule: Rule,
     base: YearBase,
     seen: &mut Vec<Observation>,
