@@ -1,3 +1,4 @@
 pub mod Benchmarks
 pub mod Dated
+pub mod Orders
 pub mod Refusals

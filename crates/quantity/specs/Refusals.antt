@@ -3,6 +3,10 @@
 use Prim.Native.Nat.{ℕ}
 use mathlib.Core.List.{List, [], _∷_}
 use lib.IntN.{ℤ, pos}
+use Rattle.std.specs.declared.option.Option.{Option}
+use Rattle.std.specs.declared.option.Option.the-variants.{Some, None}
+use Rattle.std.specs.declared.result.Result.{Result}
+use Rattle.std.specs.declared.result.Result.the-variants.{Ok, Err}
 use Rattle.quantity.specs.declared.fault.Fault.{Fault}
 use Rattle.quantity.specs.declared.fault.Cause.{Cause}
 use Rattle.quantity.specs.declared.fault.Cause.the-variants.{Outside, NoFixing}
@@ -46,3 +50,8 @@ told TooHeavy = plain 17
 told BeyondLines = plain 18
 told NotAllAccrued = plain 19
 told OtherFigures = plain 20
+
+-- what an answer refuses, if anything
+abbrev pub refused : {T : Type 0} → Result T Refusal → Option Told
+refused (Ok x) = None
+refused (Err e) = Some (told e)

@@ -16,6 +16,13 @@ impl Date {
     // The number of the last date.
     pub const LAST: u32 = 73_048;
 
+    // 2000-01-01
+    pub fn first() -> Date
+        ensures { λ r. ⌜ r .number ≡ 0 ⌝ }
+    {
+        Date { number: 0 }
+    }
+
     pub fn number(self) -> u32
         ensures value { λ r. ⌜ r ≡ self .number ⌝ }
         ensures known { λ r. ⌜ r ≤ 73048 ⌝ }

@@ -25,6 +25,12 @@ impl Rate {
         Ok(Rate { ticks })
     }
 
+    pub fn zero() -> Rate
+        ensures { λ r. ⌜ r .ticks ≡ pos 0 ⌝ }
+    {
+        Rate { ticks: 0 }
+    }
+
     pub fn ticks(self) -> i32
         ensures value { λ r. ⌜ r ≡ self .ticks ⌝ }
         ensures least { λ r. ⌜ negsuc 249999 ≤ℤ r ⌝ }

@@ -2,12 +2,12 @@
 -- Assumes nothing.
 use mathlib.Core.Bool.{Bool, true, false, not, _&&_}
 use mathlib.Core.List.{List, [], _∷_}
-use Prim.Native.Nat.{ℕ, _+_, _^_}
-use lib.Dec.{T, leb, leb→le}
+use Prim.Native.Nat.{ℕ, _+_}
+use lib.Dec.{T, eqb, leb, leb→le}
 use lib.IntN.{ℤ, pos, negsuc, _*ℤ_}
-use lib.ListN.{length}
 use lib.Signed.{leZ, leZ-yes}
-use Rattle.quantity.specs.Benchmarks.{baseOf, scale}
+use Rattle.calendar.specs.Easter.{computus}
+use Rattle.quantity.specs.Benchmarks.{baseOf}
 use Rattle.quantity.specs.declared.benchmark.BenchmarkCode.{BenchmarkCode}
 use Rattle.quantity.specs.declared.benchmark.BenchmarkCode.the-variants.{Sonia, Estr}
 use Rattle.rules.specs.Accrual.{weightOf, factorOf, boundsOf}
@@ -18,7 +18,7 @@ use Rattle.rules.specs.Rounding.{Fraction, rounded}
 use Rattle.rules.specs.declared.bounds.Bounds.{Bounds}
 use Rattle.rules.specs.declared.observation.Observation.{Observation}
 use Rattle.rules.specs.declared.rule.Rule.{Rule}
-use Rattle.rules.specs.declared.rule.Rule.the-variants.{Compounded, Simple}
+use Rattle.rules.specs.declared.rule.Rule.the-variants.{Compounded}
 
 -- an observation of written numbers in range
 abbrev pub seen : (ticks : ℤ) (days : ℕ) → T (leZ (negsuc 249999) ticks) → T (leZ ticks (pos 250000)) → T (leb 1 days) → T (leb days 15) → Observation
@@ -34,6 +34,8 @@ pub data Example : Type 0 where
   exactly : BenchmarkCode → Rule → List Observation → Fraction → (places : ℤ) → Example
   -- on this principal, at this reported rate and margin, over so many days, the amount is this
   pays : BenchmarkCode → (principal : ℕ) → (rate margin : ℤ) → (days : ℕ) → (cents : ℤ) → Example
+  -- Easter Sunday of this year is so many days after 22 March
+  easter : (year days : ℕ) → Example
 
 abbrev pub agree : Bool → Bool → Bool
 agree true b = b
@@ -54,6 +56,7 @@ holds (reports b r os lo hi rate settled) = same (boundsIn b r os .lo) lo && sam
     && same (rateOf (baseOf b) (weightOf os) lo) rate && agree (same (rateOf (baseOf b) (weightOf os) hi) rate) settled
 holds (exactly b r os q places) = equal (exactIn b r os) q && same (rounded (exactIn b r os)) places
 holds (pays b principal rate margin days cents) = same (amountOf (baseOf b) principal rate margin days) cents
+holds (easter year days) = eqb (computus year) days
 
 abbrev pub allHold : List Example → Bool
 allHold [] = true
@@ -79,4 +82,7 @@ table =
     ∷ reports Estr Compounded (seen (negsuc 5899) 1 tt tt tt tt ∷ []) (pos 999983611111) (pos 999983611112) (negsuc 58999) true
     ∷ reports Sonia Compounded oneTick (pos (unit + 2739)) (pos (unit + 2740)) (pos 0) false
     ∷ exactly Sonia Compounded oneTick (record { num = pos 1; den = 2 }) (pos 1)
+    ∷ easter 2000 32
+    ∷ easter 2024 9
+    ∷ easter 2025 29
     ∷ []

@@ -1,0 +1,4 @@
+pub mod Easters
+pub mod Rising
+pub mod Years
+pub mod Leap
