@@ -1,9 +1,11 @@
 -- Benchmarks: code, year base, and the step of the published rate.
 -- Assumes nothing.
 use Prim.Native.Nat.{ℕ, _*_, _^_, _%_}
-use mathlib.Core.Bool.{Bool}
+use mathlib.Core.Bool.{Bool, cond}
 use lib.Dec.{eqb}
 use lib.IntN.{ℤ, natAbs}
+use Rattle.std.specs.declared.option.Option.{Option}
+use Rattle.std.specs.declared.option.Option.the-variants.{Some, None}
 use Rattle.quantity.specs.declared.benchmark.BenchmarkCode.{BenchmarkCode}
 use Rattle.quantity.specs.declared.benchmark.BenchmarkCode.the-variants.{Sofr, Sonia, Estr}
 use Rattle.quantity.specs.declared.year.YearBase.{YearBase}
@@ -14,6 +16,10 @@ abbrev pub codeNumber : BenchmarkCode → ℕ
 codeNumber Sofr = 1
 codeNumber Sonia = 2
 codeNumber Estr = 3
+
+-- the benchmark of a number, or none
+abbrev pub codeOf : ℕ → Option BenchmarkCode
+codeOf n = cond (eqb n 1) (Some Sofr) (cond (eqb n 2) (Some Sonia) (cond (eqb n 3) (Some Estr) None))
 
 -- N, the days of a year base
 abbrev pub daysIn : YearBase → ℕ

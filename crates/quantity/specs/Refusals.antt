@@ -55,3 +55,8 @@ told OtherFigures = plain 20
 abbrev pub refused : {T : Type 0} → Result T Refusal → Option Told
 refused (Ok x) = None
 refused (Err e) = Some (told e)
+
+-- an answer, with its refusal as it is told
+abbrev pub answered : {T : Type 0} → Result T Refusal → Result T Told
+answered (Ok x) = Ok x
+answered (Err e) = Err (told e)

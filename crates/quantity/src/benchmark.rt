@@ -6,7 +6,8 @@ ghost use Prim.Native.Nat.{ℕ, _<_};
 ghost use lib.IntN.{pos, negsuc};
 ghost use lib.Signed.{_<ℤ_};
 ghost use Rattle.std.specs.Results.{Cases};
-ghost use Rattle.quantity.specs.Benchmarks.{baseOf, codeNumber, isOnStep, stepOf};
+ghost use Rattle.std.specs.declared.option.Option.the-variants.{Some, None};
+ghost use Rattle.quantity.specs.Benchmarks.{baseOf, codeNumber, codeOf, isOnStep, stepOf};
 ghost use Rattle.quantity.specs.Refusals.{told, plain};
 ghost use Rattle.quantity.specs.declared.benchmark.BenchmarkCode.{BenchmarkCode as Named};
 use crate::rate::Rate;
@@ -101,7 +102,7 @@ pub impl Benchmark for Estr as EstrBenchmark {
 impl BenchmarkCode {
     // The benchmark of a number, or refusal 2 where there is none.
     pub fn new(number: u8) -> Result<BenchmarkCode, Refusal>
-        ensures { λ r. ⌜ Cases r (λ b. codeNumber b ≡ number) (λ e. (((b : BenchmarkCode) → codeNumber b ≡ number → ⊥)) × (told e ≡ plain 2)) ⌝ }
+        ensures { λ r. ⌜ Cases r (λ b. (codeOf number ≡ Some b) × (codeNumber b ≡ number)) (λ e. (codeOf number ≡ None) × (told e ≡ plain 2)) ⌝ }
     {
         match number {
             1 => Ok(BenchmarkCode::Sofr),
