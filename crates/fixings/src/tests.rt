@@ -1,5 +1,7 @@
 use crate::book::Book;
 use crate::book::BookSource;
+use crate::file::FixingFile;
+use crate::file::FixingFileSource;
 use crate::fixing::Fixing;
 use crate::source::Projection;
 use crate::source::ProjectionSource;
@@ -95,4 +97,89 @@ fn projects_from_a_first_date() -> Result<(), Fail> {
     check(projection.rate(made(Date::new(99))?).is_none())?;
     check_eq(ticks_on(&projection, 100)?, 39_000)?;
     check_eq(ticks_on(&projection, 73_048)?, 39_000)
+}
+
+// €STR, 39,100 ticks on day 8,853 and 39,050 on day 8,858.
+const FILE: [u8; 31] = [
+    1,
+    0,
+    1,
+    3,
+    2,
+    0,
+    8,
+    0,
+    0,
+    0x22,
+    0x95,
+    0,
+    0,
+    0x98,
+    0xbc,
+    2,
+    0,
+    8,
+    0,
+    0,
+    0x22,
+    0x9a,
+    0,
+    0,
+    0x98,
+    0x8a,
+    9,
+    0,
+    2,
+    0,
+    2,
+];
+
+// The refusal of a file: its number, and the offset of a 1.
+fn refused(rt: LibcRuntime, bytes: &[u8]) -> Result<(u8, usize), Fail> {
+    let mut file = FixingFile::new(rt.alloc())?;
+    match file.read(bytes) {
+        Ok(length) => Ok((0, length)),
+        Err(refusal) => match refusal {
+            Refusal::Malformed(offset) => Ok((1, offset)),
+            other => Ok((other.number(), 0)),
+        },
+    }
+}
+
+#[test]
+fn reads_a_file(rt: LibcRuntime) -> Result<(), Fail> {
+    let mut file = FixingFile::new(rt.alloc())?;
+    check_eq(made(file.read(&FILE))?, 31)?;
+    check_eq(file.benchmark().number(), 3)?;
+    check_eq(ticks_on(&file, 8_853)?, 39_100)?;
+    check_eq(ticks_on(&file, 8_858)?, 39_050)?;
+    check(file.rate(made(Date::new(8_854))?).is_none())
+}
+
+#[test]
+fn refuses_a_file_cut_at_any_byte(rt: LibcRuntime) -> Result<(), Fail> {
+    for length in 0..31usize {
+        check_eq(refused(rt, &FILE[0..length])?.0, 1)?;
+    }
+    check_eq(refused(rt, &FILE[0..25])?, (1, 15))
+}
+
+// One byte changed: the benchmark, a tag, a length, a date, a rate, the count.
+#[test]
+fn refuses_a_damaged_file(rt: LibcRuntime) -> Result<(), Fail> {
+    for (at, byte, number, offset) in [
+        (3, 4, 2, 0),
+        (4, 3, 1, 4),
+        (6, 7, 1, 4),
+        (21, 0x95, 4, 0),
+        (25, 0x8b, 2, 0),
+        (19, 2, 2, 0),
+        (30, 3, 1, 26),
+    ] {
+        let mut bytes = FILE;
+        check(at < 31)?;
+        bytes[at] = byte;
+        check_eq(refused(rt, &bytes)?, (number, offset))?;
+    }
+    Ok(())
 }
