@@ -139,7 +139,7 @@ impl Book {
 }
 
 pub impl Source for Book as BookSource {
-    ghost rates = { λ t. rateAt (take (t .count) (t .records)) };
+    ghost rates = { λ t d. rateAt (take (t .count) (t .records)) (d .number) };
 
     fn rate(&self, date: Date) -> Option<Rate> {
         match self.place(date) {

@@ -149,7 +149,7 @@ impl FixingFile {
 }
 
 pub impl Source for FixingFile as FixingFileSource {
-    ghost rates = { λ f. rateAt (vec-items (f .fixings)) };
+    ghost rates = { λ f d. rateAt (vec-items (f .fixings)) (d .number) };
 
     fn rate(&self, date: Date) -> Option<Rate> {
         match self.place(date) {

@@ -1,22 +1,27 @@
 // Sources of rates.
 ghost use mathlib.Core.Path.{_≡_};
-ghost use Prim.Native.Nat.{ℕ, _≤_};
+ghost use denote.Ref.{now as lent};
 ghost use Rattle.std.specs.declared.option.Option.{Option};
-ghost use Rattle.std.specs.declared.option.Option.the-variants.{Some};
+ghost use Rattle.quantity.specs.declared.date.Date.{Date as Day};
 ghost use Rattle.quantity.specs.declared.rate.Rate.{Rate as RateOf};
 ghost use Rattle.fixings.specs.Sources.{from};
 use quantity::date::Date;
 use quantity::rate::Rate;
 
+// A source means a map from some dates to rates.
 pub trait Source {
-    // The rates that a source gives, by day number.
-    ghost rates: { Self → ℕ → Option RateOf };
-
-    // Only dates have rates.
-    law within: { (s : Self) (d : ℕ) (r : RateOf) → rates s d ≡ Some r → d ≤ 73048 };
+    ghost rates: { Self → Day → Option RateOf };
 
     fn rate(&self, date: Date) -> Option<Rate>
-        ensures { λ r. ⌜ r ≡ rates (now (self .entry)) (date .number) ⌝ };
+        ensures { λ r. ⌜ r ≡ rates (now (self .entry)) date ⌝ };
+}
+
+pub impl<F: Source> Source for &F as LentSource {
+    ghost rates = { λ s. F·Source .rates (lent s) };
+
+    fn rate(&self, date: Date) -> Option<Rate> {
+        (*self).rate(date)
+    }
 }
 
 // One rate from a first date on.
@@ -36,7 +41,7 @@ impl Projection {
 }
 
 pub impl Source for Projection as ProjectionSource {
-    ghost rates = { λ p. from (p .first .number) (p .level) };
+    ghost rates = { λ p d. from (p .first .number) (p .level) (d .number) };
 
     fn rate(&self, date: Date) -> Option<Rate> {
         if date.number() < self.first.number() {

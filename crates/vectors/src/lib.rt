@@ -9,7 +9,7 @@ pub fn worked_examples() -> usize
     ensures hold { λ _. ⌜ allHold table ≡ true ⌝ }
     ensures count { λ r. ⌜ r ≡ length table ⌝ }
 {
-    10
+    16
 }
 
 #[cfg(test)]

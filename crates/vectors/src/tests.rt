@@ -388,5 +388,5 @@ fn first_record_of_a_date() -> Result<(), Fail> {
 
 #[test]
 fn proved_table() -> Result<(), Fail> {
-    check_eq(crate::worked_examples(), 10)
+    check_eq(crate::worked_examples(), 16)
 }

@@ -1,0 +1,4 @@
+pub mod Direct
+pub mod Faults
+pub mod Layers
+pub mod Piles
