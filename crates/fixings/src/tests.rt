@@ -183,3 +183,14 @@ fn refuses_a_damaged_file(rt: LibcRuntime) -> Result<(), Fail> {
     }
     Ok(())
 }
+
+#[test]
+fn refuses_the_4001st_fixing(rt: LibcRuntime) -> Result<(), Fail> {
+    let mut bytes = Vec::new(rt.alloc());
+    bytes.extend_from_slice(&[1, 0, 1, 2])?;
+    for date in 0..4_001u32 {
+        let [a, b, c, d] = date.to_be_bytes();
+        bytes.extend_from_slice(&[2, 0, 8, a, b, c, d, 0, 0, 0, 1])?;
+    }
+    check_eq(refused(rt, bytes.as_slice())?, (3, 0))
+}
