@@ -1,14 +1,14 @@
 -- What a schedule says.
 use mathlib.Core.Path.{_≡_}
 use mathlib.Core.Bool.{Bool, true, false}
-use Prim.Native.Nat.{ℕ, _+_, _-_, _<_}
+use Prim.Native.Nat.{ℕ, _+_, _-_, _<_, _≤_}
 use lib.IntN.{ℤ, pos, _+ℤ_, natAbs}
 use lib.ListN.{getD}
 use Rattle.quantity.specs.declared.date.Date.{Date}
 use Rattle.quantity.specs.declared.days.DayCount.{DayCount}
 use Rattle.schedule.specs.Positions.{within}
 use Rattle.schedule.specs.declared.schedule.Schedule.{Schedule}
-use Rattle.schedule.specs.Days.{epoch}
+use Rattle.schedule.specs.Days.{at, epoch}
 use Rattle.schedule.specs.Refusals.{Reason, Says}
 
 -- the day at position i
@@ -27,3 +27,8 @@ pub record Scheduled (good : ℕ → Bool) (start end : Date) (s : Schedule) : T
   pub days-good : (i : ℤ) → within (s .n + 1) i ≡ true → good (day-at s i .number) ≡ true
   pub none-between : (i : ℤ) → within (s .n) i ≡ true → (x : ℕ) → day-at s i .number < x → x < day-at s (i +ℤ pos 1) .number → good x ≡ false
   pub rest : (k : ℕ) → s .n + 64 < k → k < 465 → getD (s .days) k epoch ≡ end
+
+-- two schedules with the same day at each position
+pub record Same (s t : Schedule) : Type 0 where
+  pub length : s .n ≡ t .n
+  pub days : (k : ℕ) → k ≤ s .n + 64 → at (s .days) k ≡ at (t .days) k

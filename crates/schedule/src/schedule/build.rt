@@ -3,7 +3,8 @@ ghost use mathlib.Core.Bool.{true, false};
 ghost use Prim.Native.Nat.{ℕ, _+_, _-_, _<_, _≤_};
 ghost use Rattle.std.specs.Options.{Cases};
 ghost use Rattle.std.specs.Results.{Cases as ByOk};
-ghost use Rattle.schedule.specs.Meaning.{Scheduled};
+ghost use Rattle.std.specs.Vec.{made};
+ghost use Rattle.schedule.specs.Meaning.{Same, Scheduled};
 ghost use Rattle.quantity.specs.Refusals.{told};
 ghost use Rattle.schedule.specs.Refusals.{Refused};
 ghost use Rattle.schedule.specs.Rank.{rank, Before, NoneBefore};
@@ -67,7 +68,8 @@ impl Schedule {
         start: Date,
         end: Date,
     ) -> Result<(), Refusal>
-        ensures { λ r. ⌜ ByOk r (λ _. Scheduled (good (now (calendar .entry))) start end (now (self .exit))) (λ e. Refused (good (now (calendar .entry))) (start .number) (end .number) (told e) × (now (self .exit) ≡ now (self .entry))) ⌝ }
+        ensures built { λ r. ⌜ ByOk r (λ _. Scheduled (good (now (calendar .entry))) start end (now (self .exit))) (λ e. Refused (good (now (calendar .entry))) (start .number) (end .number) (told e) × (now (self .exit) ≡ now (self .entry))) ⌝ }
+        ensures only { λ r. ⌜ made r (λ _. (s : Schedule) → Scheduled (good (now (calendar .entry))) start end s → Same s (now (self .exit))) ⌝ }
     {
         if end.number() <= start.number() || end.number() > start.number() + 400 {
             return Err(Refusal::Period);
