@@ -1,3 +1,5 @@
+#![tactic(auto)]
+
 // The coupon account: its calls, and what holds of it after every list of them.
 pub mod account;
 pub mod due;

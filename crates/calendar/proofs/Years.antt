@@ -28,7 +28,7 @@ in_guess n d e h =
 
 pub before_guess : (n d : ℕ) → n ≡ 2000 + d / 365 - 1 → d < new_year (2000 + d / 365) → d ≤ 73048 → InYear n d
 before_guess n d e h limit =
-    let some-year : 0 < d / 365 = omega (arith, new_year_high (2000 + d / 365)) in
+    let some_year : 0 < d / 365 = omega (arith, new_year_high (2000 + d / 365)) in
     let next : n + 1 ≡ 2000 + d / 365 = omega arith in
     record { since = omega (arith, new_year_high n); until = omega (arith, ap new_year next) }
 

@@ -1,3 +1,5 @@
+#![tactic(auto)]
+
 // Calendars: sets of good days.
 pub mod calendar;
 mod civil;

@@ -1,3 +1,5 @@
+#![tactic(auto)]
+
 // Recomputes a factor from published fixings: `factor BENCHMARK RULE`, with a line of `rate weight` for each observation on standard input.
 mod input;
 mod observe;

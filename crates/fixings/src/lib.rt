@@ -1,3 +1,5 @@
+#![tactic(auto)]
+
 // Sources of rates: a projection, the kept book, and the fixing file.
 pub mod book;
 pub mod field;

@@ -1,3 +1,5 @@
+#![tactic(auto)]
+
 // Shows a period's observations: `observe BENCHMARK START END LAG SHIFT LOCKOUT FLOOR`, with a fixing file on standard input.
 mod request;
 

@@ -1,3 +1,5 @@
+#![tactic(auto)]
+
 // Piles of observations: the direct pile, and the layers that go over any pile.
 pub mod direct;
 pub mod fault;

@@ -1,3 +1,5 @@
+#![tactic(auto)]
+
 // The quantities of a coupon, each a type of its own; the benchmarks; the refusals; the search by date.
 pub mod amount;
 pub mod benchmark;

@@ -121,7 +121,7 @@ pub held_simple : (B P k M' v x l d g fm cm : ℕ) → 0 < B → 2 * B ≤ 3 * M
     → fm * B ≤ unit * g → unit * g < fm * B + B → unit * g ≤ cm * B → cm * B < unit * g + B
     → Added B P k M' x l d g fm cm
 held_simple B P k M' v x l d g fm cm p m mv gm gl few s fu fo cu co =
-    let few-units : d ≤ 3 * k = narrow_held B P k (M' + v) x l d p (omega arith) s in
+    let few_units : d ≤ 3 * k = narrow_held B P k (M' + v) x l d p (omega arith) s in
     let lows : unit ≤ l + fm = simple_low B P M' v x l d g fm s.some p m (omega arith) gl s.high s.bottom fo in
     let nums : P * B ≤ x * B + g * P = simple_numerator B P M' v x g gl s.bottom in
     let parts : fm ≤ cm = le_of_mul-le-mul_right {k = B} (omega arith) p in

@@ -34,11 +34,11 @@ pub record Growth (B : ℕ) (o : Observation) : Type 0 where
 growth_of : (B w : ℕ) (r : ℤ) → negsuc 249999 ≤ℤ r → r ≤ℤ pos 250000 → 250000 * w ≤ B
     → (g : ℕ) × (pos B +ℤ (r *ℤ pos w) ≡ pos g) × (g ≤ B + 250000 * w) × (B ≤ g + 250000 * w)
 growth_of B w (pos a) lo hi f =
-    let a-most : a ≤ 250000 = omega (arith, ints) in
-    (B + a * w, refl, omega (arith, mul-le-mul_right w a-most), omega arith)
+    let a_most : a ≤ 250000 = omega (arith, ints) in
+    (B + a * w, refl, omega (arith, mul-le-mul_right w a_most), omega arith)
 growth_of B w (negsuc a) lo hi f =
-    let a-most : suc a ≤ 250000 = omega (arith, ints) in
-    let times = mul-le-mul_right w a-most in
+    let a_most : suc a ≤ 250000 = omega (arith, ints) in
+    let times = mul-le-mul_right w a_most in
     (B - suc a * w, omega (arith, ints), omega arith, omega arith)
 
 pub growth : (B : ℕ) (o : Observation) → 250000 * o.weight.days ≤ B → Growth B o

@@ -1,3 +1,5 @@
+#![tactic(auto)]
+
 // The accrual rules with their error bounds, and the rate and the amount that a coupon reports.
 pub mod bounds;
 pub mod observation;

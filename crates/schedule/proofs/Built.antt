@@ -37,14 +37,14 @@ gap_from_stuck good start end n count s =
     (λ (t : (leb 64 (rank good start) ≡ false) × (rank good start < 64)). inl t.1)
     (leb_tells 64 (rank good start))
 
-module _ (good : ℕ → Bool) (start : ℕ) (end : Date) (n : ℕ) (days : List Date) (few : n ≤ 400) (start-good : good start ≡ true) (end-good : good end.number ≡ true) (count : rank good start + n ≡ rank good end.number) (f : Filled good end n days) where
+module _ (good : ℕ → Bool) (start : ℕ) (end : Date) (n : ℕ) (days : List Date) (few : n ≤ 400) (start_good : good start ≡ true) (end_good : good end.number ≡ true) (count : rank good start + n ≡ rank good end.number) (f : Filled good end n days) where
   pub last_is : at days (n + 64) ≡ end.number
   last_is = ap (λ (d : Date). d.number) (f.rest (n + 64) (omega arith) (omega arith))
 
   pub all_good : (k : ℕ) → k ≤ n + 64 → good (at days k) ≡ true
   all_good k h =
       ⊎_elim
-      (λ e. ap (λ (i : ℕ). good (at days i)) e ∙ ap good last_is ∙ end-good)
+      (λ e. ap (λ (i : ℕ). good (at days i)) e ∙ ap good last_is ∙ end_good)
       (λ lt. (f.steps k lt).day)
       (eq-or-lt_of_le h)
 
@@ -63,7 +63,7 @@ module _ (good : ℕ → Bool) (start : ℕ) (end : Date) (n : ℕ) (days : List
   ranked k h = omega (arith, ranked_back ((n + 64) - k) k (omega arith), count)
 
   pub start_is : at days 64 ≡ start
-  start_is = rank_same good (at days 64) start (all_good 64 (omega arith)) start-good (omega (arith, ranked 64 (omega arith)))
+  start_is = rank_same good (at days 64) start (all_good 64 (omega arith)) start_good (omega (arith, ranked 64 (omega arith)))
 
   pub no_gap : Says good start end.number apart → ⊥
   no_gap (inl short) = omega (arith, ranked 0 (omega arith))
@@ -72,9 +72,9 @@ module _ (good : ℕ → Bool) (start : ℕ) (end : Date) (n : ℕ) (days : List
       let top = rank_mono good far.second end.number far.high in
       let k = (rank good far.first + 64) - rank good start in
       let within : k < n + 64 = omega (arith, next, top, count, far.low) in
-      let first-at : at days k ≡ far.first = rank_same good (at days k) far.first (all_good k (omega arith)) far.first_good (omega (arith, ranked k (omega arith), far.low)) in
+      let first_at : at days k ≡ far.first = rank_same good (at days k) far.first (all_good k (omega arith)) far.first_good (omega (arith, ranked k (omega arith), far.low)) in
       let second_at : at days (k + 1) ≡ far.second = rank_same good (at days (k + 1)) far.second (all_good (k + 1) (omega arith)) far.second_good (omega (arith, ranked (k + 1) (omega arith), far.low, next)) in
-      omega (arith, first-at, second_at, (f.steps k within).near, far.apart)
+      omega (arith, first_at, second_at, (f.steps k within).near, far.apart)
 
 -- a test has one answer
 clash : (b : Bool) → b ≡ true → b ≡ false → ⊥
@@ -82,21 +82,21 @@ clash b p q = let no : ◌≡◌ {A = ℕ} 0 1 = cc in omega arith
 
 -- past the tests, no refusal under a smaller number than that of a gap is true
 pub gap_first : (good : ℕ → Bool) (start end : ℕ) → start < end → end ≤ start + 400 → good start ≡ true → good end ≡ true → (q : Reason) → number q < 9 → Says good start end q → ⊥
-gap_first good start end after soon start-good end-good period less (inl before) = omega arith
-gap_first good start end after soon start-good end-good period less (inr late) = omega arith
-gap_first good start end after soon start-good end-good not_good less (inl bad) = clash (good start) start-good bad
-gap_first good start end after soon start-good end-good not_good less (inr bad) = clash (good end) end-good bad
-gap_first good start end after soon start-good end-good apart less says = omega arith
+gap_first good start end after soon start_good end_good period less (inl before) = omega arith
+gap_first good start end after soon start_good end_good period less (inr late) = omega arith
+gap_first good start end after soon start_good end_good not_good less (inl bad) = clash (good start) start_good bad
+gap_first good start end after soon start_good end_good not_good less (inr bad) = clash (good end) end_good bad
+gap_first good start end after soon start_good end_good apart less says = omega arith
 
-module _ (good : ℕ → Bool) (start end : Date) (s : Schedule) (after : start.number < end.number) (soon : end.number ≤ start.number + 400) (start-good : good start.number ≡ true) (end-good : good end.number ≡ true) (count : rank good start.number + s.n ≡ rank good end.number) (f : Filled good end s.n s.days) where
+module _ (good : ℕ → Bool) (start end : Date) (s : Schedule) (after : start.number < end.number) (soon : end.number ≤ start.number + 400) (start_good : good start.number ≡ true) (end_good : good end.number ≡ true) (count : rank good start.number + s.n ≡ rank good end.number) (f : Filled good end s.n s.days) where
   allowed : (q : Reason) → Says good start.number end.number q → ⊥
-  allowed period says = gap_first good start.number end.number after soon start-good end-good period (omega arith) says
-  allowed not_good says = gap_first good start.number end.number after soon start-good end-good not_good (omega arith) says
-  allowed apart says = no_gap good start.number end s.n s.days s.few start-good end-good count f says
+  allowed period says = gap_first good start.number end.number after soon start_good end_good period (omega arith) says
+  allowed not_good says = gap_first good start.number end.number after soon start_good end_good not_good (omega arith) says
+  allowed apart says = no_gap good start.number end s.n s.days s.few start_good end_good count f says
 
   -- by the index of a position
   good_at : (i : ℤ) → Indexed (s.n + 1) i → good (day_at s i).number ≡ true
-  good_at i x = rw x.here (all_good good start.number end s.n s.days s.few start-good end-good count f x.index (omega (arith, x.below)))
+  good_at i x = rw x.here (all_good good start.number end s.n s.days s.few start_good end_good count f x.index (omega (arith, x.below)))
 
   none_at : (i : ℤ) → Indexed s.n i → (x : ℕ) → (day_at s i).number < x → x < (day_at s (i +ℤ pos 1)).number → good x ≡ false
   none_at i k x p q = (f.steps k.index k.below).none x (rw k.here at p) (rw k.next at q)
@@ -104,8 +104,8 @@ module _ (good : ℕ → Bool) (start end : Date) (s : Schedule) (after : start.
   pub scheduled : Scheduled good start end s
   scheduled = record {
     allowed = allowed;
-    starts = start_is good start.number end s.n s.days s.few start-good end-good count f;
-    ends = last_is good start.number end s.n s.days s.few start-good end-good count f;
+    starts = start_is good start.number end s.n s.days s.few start_good end_good count f;
+    ends = last_is good start.number end s.n s.days s.few start_good end_good count f;
     days_good = λ i w. good_at i (indexed (s.n + 1) i w);
     none_between = λ i w. none_at i (indexed s.n i w);
     rest = λ k p q. f.rest k (omega arith) q;

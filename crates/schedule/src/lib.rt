@@ -1,3 +1,5 @@
+#![tactic(auto)]
+
 // Schedules of good days.
 pub mod lent;
 pub mod position;

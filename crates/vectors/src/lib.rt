@@ -1,3 +1,5 @@
+#![tactic(auto)]
+
 // The worked examples of the definitions, proved as one table; and tests with values that a second implementation worked out.
 ghost use Rattle.std.specs.Prelude.{◌≡◌, true, length};
 ghost use Rattle.vectors.specs.Examples.{all_hold, table};

@@ -4,8 +4,8 @@ use Rattle.calendar.specs.Target.{easter_sunday}
 use Rattle.calendar.proofs.Years.{new_year_limit, day_of_high, computus_limit}
 use Rattle.calendar.proofs.target.easter_sunday.Goals as goal
 
-pub overflow-add-result : goal.overflow-add-result
-overflow-add-result c =
+pub overflow_add-result : goal.overflow_add-result
+overflow_add-result c =
     let year = c.args.year.number in
     let h = new_year_limit year (omega arith) (omega arith) in
     let k = day_of_high year March 22 in

@@ -4,5 +4,5 @@ use Rattle.fixings.proofs.field.take_field.Goals as goal
 
 pub returns : goal.returns
 returns c =
-    split-some c.args.input.now c.from-be-bytes-length.result _ _ (search rules) c.from-be-bytes-length.ensures c.if-rest-length.false
-    c.split-at.ensures.front c.split-at.ensures.back
+    split-some c.args.input.now c.from_be_bytes-length.result _ _ (search rules) c.from_be_bytes-length.ensures c.if-rest-length.false
+    c.split_at.ensures.front c.split_at.ensures.back

@@ -10,8 +10,8 @@ use Rattle.fixings.proofs.Longs.{split_long}
 use Rattle.fixings.proofs.Readings.{first_none, first_some}
 use Rattle.fixings.proofs.file.first_field.Goals as goal
 
-pub returns-in-default : goal.returns-in-default
-returns-in-default c = record { first = first_none _ c.in-default.ensures; long = tt }
+pub returns-in_default : goal.returns-in_default
+returns-in_default c = record { first = first_none _ c.in_default.ensures; long = tt }
 
 pub returns-then-field-ne1 : goal.returns-then-field-ne1
 returns-then-field-ne1 c =

@@ -15,34 +15,34 @@ due principal days rate z p l m d e =
     let f = within-fits w128 _ _ (lit< tt) (interest-within principal days rate p l m d) in
     rw e (to_z-of_z w128 _ f)
 
-pub nearest-div-requires : goal.nearest-div-requires
-nearest-div-requires c =
-    let f : SFits w64 c.all-in-rate.result = search rules in
-    let e : c.interest-due.result ≡ (pos c.args.principal.cents *ℤ c.all-in-rate.result) *ℤ pos c.args.days.days = simp to_z-of_z at c.interest-due.ensures in
-    let w = interest-within c.args.principal.cents c.args.days.days c.all-in-rate.result c.args.principal.most c.all-in-rate.ensures.small.0 c.all-in-rate.ensures.small.1 (omega arith) in
+pub nearest_div-requires : goal.nearest_div-requires
+nearest_div-requires c =
+    let f : SFits w64 c.all_in_rate.result = search rules in
+    let e : c.interest-due.result ≡ (pos c.args.principal.cents *ℤ c.all_in_rate.result) *ℤ pos c.args.days.days = simp to_z-of_z at c.interest-due.ensures in
+    let w = interest-within c.args.principal.cents c.args.days.days c.all_in_rate.result c.args.principal.most c.all_in_rate.ensures.small.0 c.all_in_rate.ensures.small.1 (omega arith) in
     let n = base_least c.args.base in
     record { positive = omega arith; room = (omega (arith, ints), omega (arith, ints)) }
 
-value : (c : goal.After-nearest-div) → c.nearest-div.result ≡ amount_of c.args.base c.args.principal.cents c.args.rate.places c.args.margin.places c.args.days.days
+value : (c : goal.After-nearest_div) → c.nearest_div.result ≡ amount_of c.args.base c.args.principal.cents c.args.rate.places c.args.margin.places c.args.days.days
 value c =
-    let f : SFits w64 c.all-in-rate.result = search rules in
-    let e : c.interest-due.result ≡ (pos c.args.principal.cents *ℤ c.all-in-rate.result) *ℤ pos c.args.days.days = simp to_z-of_z at c.interest-due.ensures in
-    let d = due c.args.principal.cents c.args.days.days c.all-in-rate.result c.interest-due.result c.args.principal.most c.all-in-rate.ensures.small.0 c.all-in-rate.ensures.small.1 (omega arith) e in
-    let r = c.all-in-rate.ensures.value in
+    let f : SFits w64 c.all_in_rate.result = search rules in
+    let e : c.interest-due.result ≡ (pos c.args.principal.cents *ℤ c.all_in_rate.result) *ℤ pos c.args.days.days = simp to_z-of_z at c.interest-due.ensures in
+    let d = due c.args.principal.cents c.args.days.days c.all_in_rate.result c.interest-due.result c.args.principal.most c.all_in_rate.ensures.small.0 c.all_in_rate.ensures.small.1 (omega arith) e in
+    let r = c.all_in_rate.ensures.value in
     let b : c.from.result * 10000000 ≡ days_in c.args.base * 10 ^ 7 = omega arith in
     cc
 
-small : (c : goal.After-nearest-div) → Within 4400000000000000000 (amount_of c.args.base c.args.principal.cents c.args.rate.places c.args.margin.places c.args.days.days)
+small : (c : goal.After-nearest_div) → Within 4400000000000000000 (amount_of c.args.base c.args.principal.cents c.args.rate.places c.args.margin.places c.args.days.days)
 small c =
     amount_within c.args.base c.args.principal.cents c.args.days.days c.args.rate.places c.args.margin.places c.args.principal.most (omega (arith, ints)) (omega (arith, ints)) (omega arith)
 
 -- the number after the cast
-cast : (c : goal.After-nearest-div) → to_z w64 (of_z w64 (to_z w128 (of_z w128 c.nearest-div.result)))
+cast : (c : goal.After-nearest_div) → to_z w64 (of_z w64 (to_z w128 (of_z w128 c.nearest_div.result)))
     ≡ amount_of c.args.base c.args.principal.cents c.args.rate.places c.args.margin.places c.args.days.days
 cast c = let w = small c in let v = value c in omega (arith, ints)
 
-pub overflow-cast-result : goal.overflow-cast-result
-overflow-cast-result c = let w = small c in let v = value c in omega (arith, ints)
+pub overflow_cast-result : goal.overflow_cast-result
+overflow_cast-result c = let w = small c in let v = value c in omega (arith, ints)
 
 pub returns : goal.returns
 returns c =

@@ -15,8 +15,8 @@ product c =
     let b : to_z w128 (of_z w128 c.from-2.result) ≡ pos (days_in c.args.base) = omega (arith, ints) in
     cc
 
-pub overflow-mul-result : goal.overflow-mul-result
-overflow-mul-result c = rw (product c) (within-fits w128 _ _ (lit< tt) (excess_within c.args.bound c.args.base (in_reach_is c.args.bound c.requires)))
+pub overflow_mul-result : goal.overflow_mul-result
+overflow_mul-result c = rw (product c) (within-fits w128 _ _ (lit< tt) (excess_within c.args.bound c.args.base (in_reach_is c.args.bound c.requires)))
 
 pub returns : goal.returns
 returns c =

@@ -13,8 +13,8 @@ first c =
 first_fits : (c : goal.After-from-2) → SFits w128 (pos c.args.principal.cents *ℤ c.args.rate)
 first_fits c = within-fits w128 _ _ (lit< tt) (principal_within c.args.principal.cents c.args.rate c.args.principal.most c.requires.0 c.requires.1)
 
-pub overflow-mul-result : goal.overflow-mul-result
-overflow-mul-result c = rw (first c) (first_fits c)
+pub overflow_mul-result : goal.overflow_mul-result
+overflow_mul-result c = rw (first c) (first_fits c)
 
 second : (c : goal.After-from-3) → to_z w128 (of_z w128 (to_z w128 (of_z w128 c.from.result) *ℤ to_z w128 (of_z w128 c.from-2.result))) *ℤ to_z w128 (of_z w128 c.from-3.result)
     ≡ (pos c.args.principal.cents *ℤ c.args.rate) *ℤ pos c.args.days.days
@@ -28,8 +28,8 @@ second c =
 fits : (c : goal.After-from-3) → SFits w128 ((pos c.args.principal.cents *ℤ c.args.rate) *ℤ pos c.args.days.days)
 fits c = within-fits w128 _ _ (lit< tt) (interest-within c.args.principal.cents c.args.days.days c.args.rate c.args.principal.most c.requires.0 c.requires.1 (omega arith))
 
-pub overflow-mul-result-2 : goal.overflow-mul-result-2
-overflow-mul-result-2 c = rw (second c) (fits c)
+pub overflow_mul-result-2 : goal.overflow_mul-result-2
+overflow_mul-result-2 c = rw (second c) (fits c)
 
 pub returns : goal.returns
 returns c = rw (second c) (to_z-of_z w128 _ (fits c))

@@ -25,14 +25,14 @@ returns c =
     let some : 0 < c.args.weight.days = omega (arith, c.if-number-eq0.false) in
     let f : SFits w64 c.bounds-lo.result.lo = search rules in
     let g : SFits w64 c.bounds-lo.result.hi = search rules in
-    let l = simp to_z-of_z at c.rate-of-rate.ensures in
-    let u = simp to_z-of_z at c.rate-of-upper.ensures in
+    let l = simp to_z-of_z at c.rate_of-rate.ensures in
+    let u = simp to_z-of_z at c.rate_of-upper.ensures in
     let p : SFits w64 c.places.result = search rules in
     let q : SFits w64 c.places-2.result = search rules in
     let m = same_bits c.places.result c.places-2.result p q ∙ ap₂ same c.places.ensures.value c.places-2.ensures.value in
     let b = c.bounds-lo.ensures.value in (
       some,
-      reports c.args.base c.args.weight.days c.args.bounds.bounds c.rate-of-rate.result c.rate-of-upper.result _ some
+      reports c.args.base c.args.weight.days c.args.bounds.bounds c.rate_of-rate.result c.rate_of-upper.result _ some
           (l ∙ ap (λ (x : Bounds). rate_of c.args.base c.args.weight.days x.lo) b)
           (u ∙ ap (λ (x : Bounds). rate_of c.args.base c.args.weight.days x.hi) b) m,
     )

@@ -9,34 +9,34 @@ use Rattle.account.proofs.Calls.{close_done, close_early, close_fits, close_with
 use Rattle.account.proofs.Made.{phase_after_lem, phase_refused}
 use Rattle.account.proofs.account.Account.close.Goals as goal
 
-pub returns-in-err-phase : goal.returns-in-err-phase
-returns-in-err-phase c =
-    let p = err_from_is_err_and c.from-residual.result c.from-residual.ensures.1 in
-    rw p.1 (record { done = phase_refused close c.args.self.now (told p.0) (ap (λ e. Err (told e)) p.2 ∙ c.in-err-phase.ensures); accepted = tt })
+pub returns-in_err-phase : goal.returns-in_err-phase
+returns-in_err-phase c =
+    let p = err_from_is_err_and c.from_residual.result c.from_residual.ensures.1 in
+    rw p.1 (record { done = phase_refused close c.args.self.now (told p.0) (ap (λ e. Err (told e)) p.2 ∙ c.in_err-phase.ensures); accepted = tt })
 
 pub returns-then-count-terms : goal.returns-then-count-terms
 returns-then-count-terms c =
     let a = c.args.self.now in
     let days = ap (λ (t : Terms). t.n) c.terms.ensures in
-    record { done = close_early a c.in-ok-phase.phase c.in-ok-phase.ensures (omega (arith, c.count.ensures.value, days, c.if-count-terms.true)); accepted = tt }
+    record { done = close_early a c.in_ok-phase.phase c.in_ok-phase.ensures (omega (arith, c.count.ensures.value, days, c.if-count-terms.true)); accepted = tt }
 
-pub returns-in-default : goal.returns-in-default
-returns-in-default c =
+pub returns-in_default : goal.returns-in_default
+returns-in_default c =
     let a = c.args.self.now in
     let days = ap (λ (t : Terms). t.n) c.terms.ensures in
-    record { done = close_without a c.in-ok-phase.phase c.in-ok-phase.ensures (omega (arith, c.count.ensures.value, days, c.if-count-terms.false)) c.in-default.ensures; accepted = tt }
+    record { done = close_without a c.in_ok-phase.phase c.in_ok-phase.ensures (omega (arith, c.count.ensures.value, days, c.if-count-terms.false)) c.in_default.ensures; accepted = tt }
 
-pub invariant-of-self : goal.invariant-of-self
-invariant-of-self c =
+pub invariant_of-self : goal.invariant_of-self
+invariant_of-self c =
     let a = c.args.self.now in
     let days = ap (λ (t : Terms). t.n) c.terms.ensures in
-    (close_fits a c.in-ok-phase.phase c.in-ok-phase.ensures (omega (arith, c.count.ensures.value, days, c.if-count-terms.false)), tt)
+    (close_fits a c.in_ok-phase.phase c.in_ok-phase.ensures (omega (arith, c.count.ensures.value, days, c.if-count-terms.false)), tt)
 
 pub returns : goal.returns
 returns c =
     let a = c.args.self.now in
-    let q = c.in-ok-phase.phase in
-    let phased = c.in-ok-phase.ensures in
+    let q = c.in_ok-phase.phase in
+    let phased = c.in_ok-phase.ensures in
     let f = c.in-Some.figures in
     let own = c.in-Some.ensures in
     let days = ap (λ (t : Terms). t.n) c.terms.ensures in

@@ -10,20 +10,20 @@ returns g c =
     let o = c.args.offer in
     let b = c.begin.new.self in
     let fits : SFits w32 o.margin = search rules in
-    let margin : c.in-ok-margin.margin.places ≡ o.margin = simp to_z-of_z at c.in-ok-margin.ensures in
+    let margin : c.in_ok-margin.margin.places ≡ o.margin = simp to_z-of_z at c.in_ok-margin.ensures in
     let reached = reached_none _ b c.begin.ensures in (
-      opening_goes c.args.self.now.phase o c.in-ok-amount.amount c.in-ok-margin.margin c.in-ok-amount.ensures margin c.in-ok-transition.field-0 c.in-ok-transition.ensures,
+      opening_goes c.args.self.now.phase o c.in_ok-amount.amount c.in_ok-margin.margin c.in_ok-amount.ensures margin c.in_ok-transition.field-0 c.in_ok-transition.ensures,
       (
         _,
         (
           record {
             n = c.length-n.ensures;
-            start = c.day-of.ensures;
-            end = ap (λ k. m.day (pos k)) (sym c.length-n.ensures) ∙ c.day-of-2.ensures;
+            start = c.day_of.ensures;
+            end = ap (λ k. m.day (pos k)) (sym c.length-n.ensures) ∙ c.day_of-2.ensures;
             rule = refl;
             benchmark = refl;
             note = refl;
-            amount = c.in-ok-amount.ensures;
+            amount = c.in_ok-amount.ensures;
             margin = margin;
           },
           (reached, states _ _ b reached),

@@ -11,8 +11,8 @@ loop-pile-preserved g c =
     let a = c.args.self.now in
     let i = c.loop-pile.pile-index in
     let more = meanings_more f c.args.piles.now i c.pile-item.result c.loop-pile-test.true c.pile-item.is in
-    let R : List Pile → Type 0 = λ ms. Replayed ms a c.accrue.new.self (c.loop-pile.all && c.is-ok-through.result) in
-    subst R (sym more) (replayed_more a c.loop-pile.self c.accrue.new.self (meanings f (take i c.args.piles.now)) c.loop-pile.all c.is-ok-through.result (f c.pile-item.result.now) c.accrue.result c.loop-pile.invariant c.accrue.ensures c.is-ok-through.ensures.value)
+    let R : List Pile → Type 0 = λ ms. Replayed ms a c.accrue.new.self (c.loop-pile.all && c.is_ok-through.result) in
+    subst R (sym more) (replayed_more a c.loop-pile.self c.accrue.new.self (meanings f (take i c.args.piles.now)) c.loop-pile.all c.is_ok-through.result (f c.pile-item.result.now) c.accrue.result c.loop-pile.invariant c.accrue.ensures c.is_ok-through.ensures.value)
 
 pub returns : goal.returns
 returns g c =

@@ -16,11 +16,11 @@ returns g c =
     let first = c.begin.new.self in
     let b = c.replay-all.new.self in
     let same = c.eq-same.result in
-    let mine : c.as-slice.result.now ≡ lines_in issuer = c.as-slice.ensures.value ∙ sym issuer.lines.exact in
-    let theirs : c.as-slice-2.result.now ≡ lines_in b = c.as-slice-2.ensures.value ∙ sym b.lines.exact in
-    let decides = slice_eq-Decides Decides-eqb c.as-slice.result.now c.as-slice-2.result.now same c.eq-same.ensures in
-    let equal : Decides same (lines_in issuer ≡ lines_in b) = subst (λ (ls : List Line). Decides same (lines_in issuer ≡ ls)) theirs (subst (λ (ls : List Line). Decides same (ls ≡ c.as-slice-2.result.now)) mine decides) in
+    let mine : c.as_slice.result.now ≡ lines_in issuer = c.as_slice.ensures.value ∙ sym issuer.lines.exact in
+    let theirs : c.as_slice-2.result.now ≡ lines_in b = c.as_slice-2.ensures.value ∙ sym b.lines.exact in
+    let decides = slice_eq-Decides Decides-eqb c.as_slice.result.now c.as_slice-2.result.now same c.eq-same.ensures in
+    let equal : Decides same (lines_in issuer ≡ lines_in b) = subst (λ (ls : List Line). Decides same (lines_in issuer ≡ ls)) theirs (subst (λ (ls : List Line). Decides same (ls ≡ c.as_slice-2.result.now)) mine decides) in
     let opened = subst (λ (t : Terms). Opened t first) c.terms.ensures c.begin.ensures in (
-      both_free issuer.phase holder.phase c.in-ok-transition.field-0 c.in-ok-transition-2.field-0 c.in-ok-transition.ensures c.in-ok-transition-2.ensures,
+      both_free issuer.phase holder.phase c.in_ok-transition.field-0 c.in_ok-transition-2.field-0 c.in_ok-transition.ensures c.in_ok-transition-2.ensures,
       reconciled (meanings g.P.Observations.meaning c.args.piles.now) issuer first b c.replay-all.result same opened c.replay-all.ensures equal,
     )

@@ -4,12 +4,12 @@ use Rattle.calendar.specs.Target.{is_target_day}
 use Rattle.calendar.proofs.Years.{holiday_year}
 use Rattle.calendar.proofs.target.TargetCalendar.is_good.Goals as goal
 
-pub returns-then-not-is-weekend : goal.returns-then-not-is-weekend
+pub returns-then-not-is_weekend : goal.returns-then-not-is_weekend
 unfolding is_target_day
-returns-then-not-is-weekend c =
+returns-then-not-is_weekend c =
     let e = holiday_year c.of.result.number c.args.date.number (omega arith) (omega arith) c.of.ensures in
     grind (arith, nat_tests)
 
-pub returns-else-not-is-weekend : goal.returns-else-not-is-weekend
+pub returns-else-not-is_weekend : goal.returns-else-not-is_weekend
 unfolding is_target_day
-returns-else-not-is-weekend c = grind (arith, nat_tests)
+returns-else-not-is_weekend c = grind (arith, nat_tests)

@@ -3,8 +3,8 @@ use Rattle.coupon.proofs.Rows.{total_before}
 use Rattle.coupon.proofs.Owned.{total_of}
 use Rattle.coupon.proofs.lines.Lines.total.Goals as goal
 
-pub returns-in-default : goal.returns-in-default
-returns-in-default c = c.none.ensures ∙ ap total_before c.in-default.ensures ∙ total_of c.args.self.now
+pub returns-in_default : goal.returns-in_default
+returns-in_default c = c.none.ensures ∙ ap total_before c.in_default.ensures ∙ total_of c.args.self.now
 
 pub unreachable-requires : goal.unreachable-requires
 unreachable-requires c =

@@ -14,19 +14,10 @@ returns-then-count-len c =
       left = refl;
     }
 
-pub invariant-of-self : goal.invariant-of-self
-invariant-of-self c =
+pub invariant_of-self : goal.invariant_of-self
+invariant_of-self c =
     let a = c.args.self.now in
-    let items = c.truncate.ensures.items in (
-      exact_cut a.terms (held a) a.exact c.in-Some.count _ items,
-      (
-        omega (arith, weight_cut c.in-Some.count (held a) _ items, a.light),
-        (
-          ap all_modest items ∙ modest_take c.in-Some.count (held a) a.modest,
-          (omega (arith, c.truncate.ensures.len, a.within), (omega (arith, c.truncate.ensures.capacity, a.room), tt)),
-        ),
-      ),
-    )
+    let items = c.truncate.ensures.items in record { exact = exact_cut a.terms (held a) a.exact c.in-Some.count _ items; light = omega (arith, weight_cut c.in-Some.count (held a) _ items, a.light); modest = ap all_modest items ∙ modest_take c.in-Some.count (held a) a.modest; within = omega (arith, c.truncate.ensures.len, a.within); room = omega (arith, c.truncate.ensures.capacity, a.room) }
 
 pub returns : goal.returns
 returns c =

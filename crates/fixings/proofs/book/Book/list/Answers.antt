@@ -17,8 +17,8 @@ listed fs before after n size e = record {
 pub returns : goal.returns
 returns c =
     let book = c.args.self.now in
-    let few : book.count ≤ length book.records = omega (arith, c.copy-to.ensures.held, c.copy-to.ensures.count) in
+    let few : book.count ≤ length book.records = omega (arith, c.copy_to.ensures.held, c.copy_to.ensures.count) in
     record {
-      count = c.copy-to.ensures.count;
-      listed = listed (take book.count book.records) c.args.area.now _ book.count (length-take-le book.count book.records few) c.copy-to.ensures.area;
+      count = c.copy_to.ensures.count;
+      listed = listed (take book.count book.records) c.args.area.now _ book.count (length-take-le book.count book.records few) c.copy_to.ensures.area;
     }

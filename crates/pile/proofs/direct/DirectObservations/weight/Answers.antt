@@ -10,4 +10,4 @@ returns g c =
     let s = g.S.AsSchedule.schedule c.args.self.now.schedule in
     let i = c.args.i.value in
     let G : Schedule → Type 0 = λ x. Some c.in-Some.gap ≡ cond (within x.n i) (Some (gap_at x i)) None in
-    weighed s i c.in-Some.gap c.in-Ok.weight (subst G c.as-schedule.ensures c.in-Some.ensures) c.in-Ok.ensures
+    weighed s i c.in-Some.gap c.in-Ok.weight (subst G c.as_schedule.ensures c.in-Some.ensures) c.in-Ok.ensures

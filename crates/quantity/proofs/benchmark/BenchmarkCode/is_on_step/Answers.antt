@@ -7,7 +7,7 @@ pub returns : goal.returns
 unfolding is_on_step
 returns c =
     let fits : SFits w32 c.ticks.result = search rules in
-    let size = simp to_z-of_z at c.unsigned-abs.ensures.value in
+    let size = simp to_z-of_z at c.unsigned_abs.ensures.value in
     let value = ap nat_abs c.ticks.ensures.value in
-    let step = c.rate-step.ensures.step in
-    ap (λ (m : ℕ). eqb (m % c.rate-step.result) 0) (size ∙ value) ∙ ap (λ (m : ℕ). eqb (nat_abs c.args.rate.ticks % m) 0) step
+    let step = c.rate_step.ensures.step in
+    ap (λ (m : ℕ). eqb (m % c.rate_step.result) 0) (size ∙ value) ∙ ap (λ (m : ℕ). eqb (nat_abs c.args.rate.ticks % m) 0) step

@@ -4,8 +4,8 @@ use Rattle.quantity.specs.declared.date.Date.{Date}
 use Rattle.schedule.specs.Days.{epoch, at}
 use Rattle.schedule.proofs.schedule.Schedule.step.Goals as goal
 
-pub overflow-sub-number : goal.overflow-sub-number
-overflow-sub-number c =
+pub overflow_sub-number : goal.overflow_sub-number
+overflow_sub-number c =
     let days = c.args.self.now.days in
     let k = c.args.k in
     let long : k + 1 < length days = search rules in
