@@ -13,7 +13,7 @@ use quantity::refusal::Refusal;
 
 // The last good day among the 15 before `day`.
 fn before<C: Calendar>(calendar: &C, day: Date) -> Option<Date>
-    ensures { MatchOption result (NoneBefore (good calendar.now) day.number) (λ e. Before (good calendar.now) e.number day.number) }
+    ensures { MatchOption result (NoneBefore (C.good calendar.now) day.number) (λ e. Before (C.good calendar.now) e.number day.number) }
 {
     for back in 1..=15u32 {
         let Some(earlier) = day.minus(DayCount::new(back)) else {
@@ -30,7 +30,7 @@ fn before<C: Calendar>(calendar: &C, day: Date) -> Option<Date>
 fn count<C: Calendar>(calendar: &C, start: Date, end: Date) -> u32
     requires { start.number ≤ end.number }
     ensures few { start.number + result ≤ end.number }
-    ensures ranked { rank (good calendar.now) start.number + result ≡ rank (good calendar.now) end.number }
+    ensures ranked { rank (C.good calendar.now) start.number + result ≡ rank (C.good calendar.now) end.number }
 {
     let mut n = 0;
     for number in start.number()..end.number() {
@@ -46,8 +46,8 @@ fn count<C: Calendar>(calendar: &C, start: Date, end: Date) -> u32
 // The days of positions -64 to n, found backwards from the end; none where a day has no good day among the 15 before it.
 fn fill<C: Calendar>(calendar: &C, end: Date, n: u32) -> Option<[Date; 465]>
     requires few { n ≤ 400 }
-    requires good_end { good calendar.now end.number ≡ true }
-    ensures { MatchOption result (Stuck (good calendar.now) end.number n) (λ days. Filled (good calendar.now) end n days) }
+    requires good_end { C.good calendar.now end.number ≡ true }
+    ensures { MatchOption result (Stuck (C.good calendar.now) end.number n) (λ days. Filled (C.good calendar.now) end n days) }
 {
     let mut days = [end; 465];
     for k in (0..n as usize + 64).rev() {
@@ -64,8 +64,8 @@ impl Schedule {
         start: Date,
         end: Date,
     ) -> Result<(), Refusal>
-        ensures built { MatchResult result (λ _. Scheduled (good calendar.now) start end self.new) (λ e. Refused (good calendar.now) start.number end.number (told e) × (self.new ≡ self.old)) }
-        ensures only { OnOk result ((s : Schedule) → Scheduled (good calendar.now) start end s → Same s self.new) }
+        ensures built { MatchResult result (λ _. Scheduled (C.good calendar.now) start end self.new) (λ e. Refused (C.good calendar.now) start.number end.number (told e) × (self.new ≡ self.old)) }
+        ensures only { OnOk result ((s : Schedule) → Scheduled (C.good calendar.now) start end s → Same s self.new) }
     {
         if end.number() <= start.number() || end.number() > start.number() + 400 {
             return Err(Refusal::Period);
