@@ -9,6 +9,7 @@ use quantity::date::Date;
 use quantity::position::{Offset, Position};
 use quantity::refusal::Refusal;
 use schedule::schedule::Schedule;
+use std::process::Abort;
 use std::test::*;
 
 fn made<T: Drop>(made: Result<T, Refusal>) -> Result<T, Fail> {
@@ -47,9 +48,9 @@ fn target_schedules(rt: HostRuntime) -> Result<(), Fail> {
 }
 
 // A holiday on each weekday from `first` to `last`, and the refusal of a schedule from the day before them to the day after.
-fn closed(rt: HostRuntime, first: u32, last: u32) -> Result<u8, Fail> {
+fn closed(rt: &(impl Abort + AllocGlobal), first: u32, last: u32) -> Result<u8, Fail> {
     let mut list = HolidayList::new(rt.alloc())?;
-    assert!(first > 0 && last < 1_000);
+    assert!(rt; first > 0 && last < 1_000);
     for number in first..last + 1 {
         made(list.add(number))?;
     }
@@ -62,8 +63,8 @@ fn closed(rt: HostRuntime, first: u32, last: u32) -> Result<u8, Fail> {
 // Day 230 is a Friday, 215 a Thursday and 214 a Wednesday.
 #[test]
 fn a_gap_of_15_days_and_no_more(rt: HostRuntime) -> Result<(), Fail> {
-    assert_eq!(rt; closed(rt, 216, 229)?, 0);
-    assert_eq!(rt; closed(rt, 215, 229)?, 9);
+    assert_eq!(rt; closed(&rt, 216, 229)?, 0);
+    assert_eq!(rt; closed(&rt, 215, 229)?, 9);
     Ok(())
 }
 
