@@ -1,11 +1,11 @@
 -- Years follow one another, and each of the TARGET holidays lies in its own year.
 -- Assumes nothing.
-use Rattle.std.proofs.Common.{◌≡◌, ℕ, zero, suc, ◌+◌, ◌-◌, ◌*◌, ◌/◌, ◌<◌, ◌≤◌, Bool, true, false, cond, ◌&&◌, ◌||◌, eqb, ◌⊎◌, map, sym, refl, ap, ◌∙◌, inl, inr, ⊎_elim, arith}
+use Rattle.std.proofs.Common.{◌≡◌, ℕ, zero, suc, ◌+◌, ◌-◌, ◌*◌, ◌/◌, ◌<◌, ◌≤◌, Bool, true, false, cond, ◌&&◌, eqb, map, refl, ap, ◌∙◌, ⊎_elim, arith}
 use mathlib.Core.Bool.{or-false}
 use Rattle.std.proofs.lemmas.Bool.{ne_eqb, or_from, cases_eq, cases_lt}
 use Rattle.calendar.specs.declared.month.Month.{Month}
 use Rattle.calendar.specs.declared.month.Month.TheVariants.{January, March, May, December}
-use Rattle.calendar.specs.Easter.{moon, sunday, late, computus}
+use Rattle.calendar.specs.Easter.{moon, sunday, computus}
 use Rattle.calendar.specs.Civil.{is_leap, is_past_february, days_before, new_year, day_of, InYear}
 use Rattle.calendar.specs.Target.{easter_sunday, new_years_day, good_friday, easter_monday, labour_day, christmas_day, day_after_christmas, yearly, some, falls_on, any_of, is_holiday_of}
 

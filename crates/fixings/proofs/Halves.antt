@@ -1,12 +1,12 @@
 -- The dates of lawful fixings rise from place to place.
 -- Assumes nothing.
-use Rattle.std.proofs.Common.{◌≡◌, ℕ, zero, suc, ◌+◌, ◌<◌, ◌≤◌, true, List, [], ◌∷◌, map, length, get_or, sym, refl, ap, ◌∙◌, ⊎_elim, arith}
+use Rattle.std.proofs.Common.{◌≡◌, ℕ, zero, suc, ◌+◌, ◌<◌, ◌≤◌, true, List, [], ◌∷◌, map, length, get_or, sym, ap, ◌∙◌, ⊎_elim, arith}
 use Rattle.std.proofs.lemmas.Bool.{leb-true, and_parts, cases_lt}
 use Rattle.std.proofs.lemmas.List.{get_or-map, length-map}
 use Rattle.quantity.specs.declared.benchmark.BenchmarkCode.{BenchmarkCode}
 use Rattle.fixings.specs.Fixings.{dates_of}
 use Rattle.fixings.specs.declared.fixing.Fixing.{Fixing}
-use Rattle.fixings.specs.Files.{entry_of, is_rate, lawful_from}
+use Rattle.fixings.specs.Files.{entry_of, lawful_from}
 
 -- each date is at least the least one
 from_least : (b : BenchmarkCode) (least : ℕ) (fs : List Fixing) → lawful_from b least (map entry_of fs) ≡ true → (k : ℕ) → k < length (dates_of fs) → least ≤ get_or (dates_of fs) k 0

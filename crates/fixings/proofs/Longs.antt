@@ -1,10 +1,10 @@
 -- A fixing's field takes 11 bytes, and is one of the first 4,000.
 -- Assumes nothing.
-use Rattle.std.proofs.Common.{◌≡◌, ℕ, ◌+◌, ◌*◌, ◌<◌, ◌≤◌, Bool, true, false, cond, ◌&&◌, eqb, ltb, leb, List, [], ◌∷◌, length, get_or, take, drop, ℤ, Some, None, Ok, Err, Option, Result, sym, refl, ap, ◌∙◌, arith, w32, to_z}
+use Rattle.std.proofs.Common.{◌≡◌, ℕ, ◌+◌, ◌*◌, ◌<◌, ◌≤◌, Bool, true, false, cond, ◌&&◌, eqb, ltb, leb, List, [], ◌∷◌, length, get_or, Some, None, Ok, Err, Option, Result, sym, refl, ap, ◌∙◌, arith, w32, to_z}
 use Rattle.std.proofs.lemmas.List.{length-take}
 use Rattle.std.proofs.lemmas.Bool.{eqb-true, ltb-true, and_from}
 use Rattle.quantity.specs.declared.benchmark.BenchmarkCode.{BenchmarkCode}
-use Rattle.quantity.specs.Refusals.{Told, plain, at_field}
+use Rattle.quantity.specs.Refusals.{Told, at_field}
 use Rattle.fixings.specs.Fields.{Split, split}
 use Rattle.fixings.specs.Files.{Entry, word_at, judge, is_rate, some, fixing_in, end_in, verdict}
 

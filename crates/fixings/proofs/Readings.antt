@@ -1,12 +1,12 @@
 -- The verdict on a field, by its tag.
 -- Assumes nothing.
-use Rattle.std.proofs.Common.{◌≡◌, ℕ, cond, ◌&&◌, eqb, List, length, get_or, drop, ℤ, Some, None, Ok, Err, Option, Result, sym, refl, ap, ◌∙◌, w32, to_z}
+use Rattle.std.proofs.Common.{◌≡◌, ℕ, cond, ◌&&◌, eqb, List, length, get_or, drop, ℤ, Some, None, Ok, Err, Option, Result, refl, w32, to_z}
 use Rattle.std.proofs.lemmas.Bool.{eq-eqb, ne_eqb}
 use Rattle.quantity.specs.declared.benchmark.BenchmarkCode.{BenchmarkCode}
 use Rattle.quantity.specs.Benchmarks.{code_of}
-use Rattle.quantity.specs.Refusals.{Told, plain, at_field}
+use Rattle.quantity.specs.Refusals.{Told, at_field}
 use Rattle.fixings.specs.Fields.{Split, split}
-use Rattle.fixings.specs.Files.{Entry, word_at, judge, some, fixing_in, end_in, verdict, Tail, named, first_field, fields_from, with_code, parse}
+use Rattle.fixings.specs.Files.{word_at, judge, some, fixing_in, end_in, verdict, Tail, named, first_field, fields_from, with_code, parse}
 
 pub fixing_read : (b : BenchmarkCode) (at n least : ℕ) (body : List ℕ) (day : ℕ) (ticks : ℤ) → length body ≡ 8 → day ≡ word_at body 0 → ticks ≡ to_z w32 (word_at body 4) → fixing_in b at n least body ≡ some (judge b n least (record { day = day; ticks = ticks }))
 unfolding fixing_in

@@ -1,8 +1,8 @@
 -- A field taken off by the slice pattern is the field of the definition.
 -- Assumes nothing.
-use Rattle.std.proofs.Common.{◌≡◌, ℕ, ◌+◌, ◌-◌, ◌*◌, ◌≤◌, List, [], ◌∷◌, length, get_or, take, drop, Some, sym, refl, ap, ◌∙◌, arith, take_all}
+use Rattle.std.proofs.Common.{◌≡◌, ℕ, ◌+◌, ◌-◌, ◌*◌, ◌≤◌, List, [], ◌∷◌, length, get_or, take, drop, Some, sym, ap, ◌∙◌, arith, take_all}
 use Rattle.std.proofs.lemmas.Bool.{le-ltb}
-use Rattle.fixings.specs.Fields.{Split, split}
+use Rattle.fixings.specs.Fields.{split}
 
 pub split-some : (s : List ℕ) (n : ℕ) (b a : List ℕ) → 3 ≤ length s → n ≡ get_or s 1 0 * 256 + get_or s 2 0 → n ≤ length (take (length s - 3) (drop 3 s)) → b ≡ take n (take (length s - 3) (drop 3 s)) → a ≡ drop n (take (length s - 3) (drop 3 s)) → split s ≡ Some (record { label = get_or s 0 0; body = b; after = a })
 split-some [] n b a three e within eb ea = absurd (omega arith)

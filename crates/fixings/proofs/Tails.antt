@@ -1,9 +1,9 @@
 -- One field more of a file.
 -- Assumes nothing.
-use Rattle.std.proofs.Common.{◌≡◌, ℕ, zero, suc, ◌+◌, ◌-◌, ◌<◌, ◌≤◌, true, List, [], ◌∷◌, ◌++◌, length, take, drop, is_ok, Some, None, Ok, Err, Option, Result, sym, refl, ap, ◌∙◌, arith, length-drop, take_all, drop-drop}
+use Rattle.std.proofs.Common.{◌≡◌, ℕ, suc, ◌+◌, ◌-◌, ◌<◌, ◌≤◌, true, List, [], ◌∷◌, ◌++◌, length, take, drop, is_ok, Some, None, Ok, Err, Result, sym, refl, ap, ◌∙◌, arith, length-drop, take_all, drop-drop}
 use Rattle.fixings.proofs.Longs.{fixing_long}
 use Rattle.quantity.specs.declared.benchmark.BenchmarkCode.{BenchmarkCode}
-use Rattle.quantity.specs.Refusals.{Told, plain, at_field}
+use Rattle.quantity.specs.Refusals.{Told}
 use Rattle.fixings.specs.Fields.{split}
 use Rattle.fixings.specs.Files.{Entry, Tail, prepend, on_verdict, verdict, fields_from, entries_of, length_of}
 

@@ -1,6 +1,6 @@
 -- What a table and a book refuse.
 -- Assumes nothing.
-use Rattle.std.proofs.Common.{◌≡◌, ℕ, ◌<◌, ◌≤◌, true, false, List, take, ℤ, Some, None, Option, sym, refl, ap, ◌∙◌}
+use Rattle.std.proofs.Common.{◌≡◌, ℕ, ◌<◌, ◌≤◌, true, false, List, take, ℤ, Some, None, Option, sym, refl}
 use Rattle.std.proofs.lemmas.Bool.{lt-ltb, le-ltb}
 use Rattle.quantity.specs.Benchmarks.{is_on_step}
 use Rattle.quantity.specs.Dated.{FirstAt}

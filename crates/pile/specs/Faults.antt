@@ -1,6 +1,6 @@
 -- Faults, and how they pass up through layers.
 -- Assumes nothing.
-use Rattle.std.specs.Prelude.{ℕ, ◌+◌, min, ℤ, Ok, Err, Result}
+use Rattle.std.specs.Prelude.{◌+◌, min, ℤ, Ok, Err, Result}
 use Rattle.quantity.specs.declared.fault.Fault.{Fault}
 use Rattle.quantity.specs.declared.fault.Cause.TheVariants.{Outside}
 

@@ -12,7 +12,7 @@ use Rattle.quantity.specs.declared.days.DayCount.{DayCount}
 use Rattle.quantity.specs.declared.fault.Fault.{Fault}
 use Rattle.pile.specs.Faults.{outside}
 use Rattle.schedule.specs.Positions.{within}
-use Rattle.pile.specs.Piles.{Pile, Lawful}
+use Rattle.pile.specs.Piles.{Lawful}
 use Rattle.schedule.specs.declared.schedule.Schedule.{Schedule}
 use Rattle.schedule.specs.Meaning.{day_at, gap_at}
 use Rattle.schedule.proofs.Indices.{Indexed, indexed}

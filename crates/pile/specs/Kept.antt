@@ -1,13 +1,10 @@
 -- A layer over a lawful pile is lawful.
 -- Assumes nothing.
-use Rattle.std.specs.Prelude.{◌≡◌, Bool, true, false, cond, ℤ, Ok, Err, Result}
-use Rattle.quantity.specs.declared.weight.Weight.{Weight}
+use Rattle.std.specs.Prelude.{ℤ, Result}
 use Rattle.pile.specs.declared.observations.ObservedRate.{ObservedRate}
 use Rattle.quantity.specs.declared.fault.Fault.{Fault}
-use Rattle.pile.specs.Faults.{outside, lifted}
-use Rattle.schedule.specs.Positions.{within}
 use Rattle.pile.specs.Piles.{Pile, Lawful}
-use Rattle.pile.specs.Layers.{passed, over}
+use Rattle.pile.specs.Layers.{over}
 
 pub over_lawful : (f : ℤ → ℤ) (rates : ℤ → Result ObservedRate Fault) (m : Pile) → Lawful m → Lawful (over f rates m)
 over_lawful f rates m h = record {

@@ -1,6 +1,6 @@
 -- The year bases, by their limits.
 -- Assumes nothing.
-use Rattle.std.proofs.Common.{ℕ, ◌≤◌, arith}
+use Rattle.std.proofs.Common.{◌≤◌, arith}
 use Rattle.quantity.specs.Benchmarks.{days_in, scale}
 use Rattle.quantity.specs.declared.year.YearBase.{YearBase}
 use Rattle.quantity.specs.declared.year.YearBase.TheVariants.{Days360, Days365}

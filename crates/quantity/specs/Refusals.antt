@@ -1,7 +1,6 @@
 -- What is told of a refusal: its number, and its values.
 -- Assumes nothing.
 use Rattle.std.specs.Prelude.{ℕ, List, [], ◌∷◌, ℤ, pos, Some, None, Ok, Err, Option, Result}
-use Rattle.quantity.specs.declared.fault.Fault.{Fault}
 use Rattle.quantity.specs.declared.fault.Cause.{Cause}
 use Rattle.quantity.specs.declared.fault.Cause.TheVariants.{Outside, NoFixing}
 use Rattle.quantity.specs.declared.refusal.Refusal.{Refusal}

@@ -1,7 +1,7 @@
 -- The laws of rounding, by which alone it is known to everything above.
 -- Assumes nothing.
 use Rattle.std.proofs.Common.{◌≡◌, ℕ, suc, ◌+◌, ◌*◌, ◌^◌, ◌<◌, ◌≤◌, ℤ, pos, negsuc, ◌+ℤ◌, ◌-ℤ◌, ◌*ℤ◌, ◌≤ℤ◌, ◌<ℤ◌, ap, mul-le-mul_right, lt_of_mul-lt-mul_right, mul-lt-mul_of_pos_right, arith}
-use borrow.Author.Differences.{up, down, product_is, sum_is_lem}
+use borrow.Author.Differences.{up, down, product_is}
 use Rattle.std.proofs.lemmas.Int.{ints}
 use Rattle.quantity.proofs.Bases.{base_least}
 use Rattle.quantity.specs.Benchmarks.{days_in}

@@ -1,6 +1,6 @@
 -- A run one observation longer, and bounds that stay in reach.
 -- Assumes nothing.
-use Rattle.std.proofs.Common.{◌≡◌, ℕ, suc, ◌+◌, ◌*◌, ◌^◌, ◌<◌, ◌≤◌, true, List, [], ◌∷◌, ◌++◌, length, get_or, take, drop, ℤ, pos, ◌+ℤ◌, ◌*ℤ◌, ◌≤ℤ◌, sym, ap, ◌∙◌, le_of_mul-le-mul_right, arith, take-append-drop, length-take}
+use Rattle.std.proofs.Common.{◌≡◌, ℕ, suc, ◌+◌, ◌*◌, ◌^◌, ◌<◌, ◌≤◌, true, List, [], ◌∷◌, ◌++◌, length, get_or, take, drop, ℤ, pos, ◌*ℤ◌, ◌≤ℤ◌, sym, ap, ◌∙◌, le_of_mul-le-mul_right, arith, take-append-drop, length-take}
 use borrow.Author.Differences.{up, down}
 use Rattle.std.proofs.lemmas.List.{take_more}
 use native.Mathlib.Nat.{one-le-pow}

@@ -2,9 +2,8 @@
 -- Assumes nothing.
 -- B is the scale, P = B^k, X the factor's numerator, W the weights so far with M = B − cW, w the next weight, g = B + rw.
 use Rattle.std.specs.Prelude.{◌≡◌, ℕ, suc, ◌+◌, ◌-◌, ◌*◌, ◌<◌, ◌≤◌}
-use Rattle.std.proofs.Common.{ap, subst, mul-le-mul_left, mul-le-mul_right, mul-le-mul, le_of_mul-le-mul_right, lt_of_mul-lt-mul_right, mul-pos, arith}
+use Rattle.std.proofs.Common.{ap, subst, mul-le-mul_left, mul-le-mul_right, le_of_mul-le-mul_right, lt_of_mul-lt-mul_right, mul-pos, arith}
 use Rattle.rules.specs.Reach.{unit}
-use Rattle.std.proofs.Math.Nat.{le_of_mul-le-mul_left}
 
 -- a part of the bounds: lo' = ⌊lo × g / B⌋
 pub low_step : (U B P X g lo lo' : ℕ) → lo * P ≤ U * X → lo' * B ≤ lo * g → lo' * (P * B) ≤ U * (X * g)

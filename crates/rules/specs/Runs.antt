@@ -1,7 +1,7 @@
 -- From one step to a list of observations, for any rule: the three laws.
 -- Assumes nothing.
-use Rattle.std.specs.Prelude.{◌≡◌, ℕ, suc, ◌+◌, ◌*◌, ◌^◌, ◌<◌, ◌≤◌, List, [], ◌∷◌, length, ℤ, pos, ◌+ℤ◌, ◌*ℤ◌, ◌≤ℤ◌, refl}
-use Rattle.std.proofs.Common.{sym, ap, subst, ◌∙◌, pow-suc, arith}
+use Rattle.std.specs.Prelude.{◌≡◌, ℕ, suc, ◌+◌, ◌*◌, ◌^◌, ◌≤◌, List, [], ◌∷◌, length, ℤ, pos, ◌*ℤ◌, ◌≤ℤ◌, refl}
+use Rattle.std.proofs.Common.{subst, pow-suc, arith}
 use Rattle.std.proofs.Math.Nat.{pow-zero}
 use Rattle.std.proofs.lemmas.Int.{ints}
 use Rattle.quantity.proofs.Bases.{scale_least}
@@ -11,7 +11,7 @@ use Rattle.rules.specs.Accrual.{weight_of, carried, factor_of, bounds_of, at_one
 use Rattle.rules.specs.Reach.{unit}
 use Rattle.rules.specs.declared.bounds.Bounds.{Bounds}
 use Rattle.rules.specs.declared.observation.Observation.{Observation}
-use Rattle.rules.specs.Core.{Held, narrow_held, half_held, double_held}
+use Rattle.rules.specs.Core.{narrow_held, half_held, double_held}
 use Rattle.rules.specs.Sound.{Sound}
 
 abbrev pub Good : YearBase → (k W : ℕ) → ℤ → Bounds → Type 0

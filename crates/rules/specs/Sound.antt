@@ -1,13 +1,13 @@
 -- What every step of every rule keeps, from which the three laws follow.
 -- Assumes nothing.
-use Rattle.std.specs.Prelude.{◌≡◌, ℕ, suc, ◌+◌, ◌-◌, ◌*◌, ◌<◌, ◌≤◌, ℤ, pos, negsuc, ◌+ℤ◌, ◌*ℤ◌, neg_ℤ, ◌≤ℤ◌, refl}
-use Rattle.std.proofs.Common.{sym, ap, ap₂, subst, ◌∙◌, mul-le-mul_left, mul-le-mul_right, le_of_mul-le-mul_right, arith}
+use Rattle.std.specs.Prelude.{◌≡◌, ℕ, suc, ◌+◌, ◌-◌, ◌*◌, ◌≤◌, ℤ, pos, negsuc, ◌+ℤ◌, ◌*ℤ◌, ◌≤ℤ◌, refl}
+use Rattle.std.proofs.Common.{ap, ap₂, subst, ◌∙◌, mul-le-mul_right, arith}
 use Rattle.std.proofs.lemmas.Int.{ints}
 use Rattle.rules.specs.Accrual.{gain}
 use Rattle.rules.specs.Reach.{unit}
 use Rattle.rules.specs.Rounding.{floor_div, ceil_div}
 use Rattle.rules.specs.declared.observation.Observation.{Observation}
-use Rattle.rules.specs.Core.{Held, held_compounded, Added, held_simple, narrow_held, half_held, double_held}
+use Rattle.rules.specs.Core.{Held, held_compounded, held_simple}
 use borrow.Author.Differences.{up, down}
 use Rattle.rules.specs.Whole.{Floor, floor_of, Ceiling, ceil_of}
 

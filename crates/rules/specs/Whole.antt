@@ -1,8 +1,8 @@
 -- Floors and ceilings, by the inequalities that they satisfy.
 -- Assumes nothing.
 -- An integer z is read as up z − down z, and q × B as two products, which `omega` can add up.
-use Rattle.std.specs.Prelude.{◌≡◌, ℕ, suc, ◌+◌, ◌-◌, ◌*◌, ◌/◌, ◌%◌, ◌<◌, ◌≤◌, ℤ, pos, negsuc, ◌+ℤ◌, ◌*ℤ◌, neg_ℤ, refl}
-use Rattle.std.proofs.Common.{sym, ap, ◌∙◌, div-add-mod', mod-lt, mul-le-mul_right, arith}
+use Rattle.std.specs.Prelude.{◌≡◌, ℕ, ◌+◌, ◌*◌, ◌<◌, ◌≤◌, ℤ, pos, negsuc, ◌+ℤ◌, neg_ℤ, refl}
+use Rattle.std.proofs.Common.{ap, div-add-mod', mod-lt, arith}
 use borrow.Author.Differences.{up, down, neg_is, sum_is_lem}
 use Rattle.std.proofs.lemmas.Int.{ints}
 use Rattle.rules.specs.Rounding.{floor_div, ceil_div}

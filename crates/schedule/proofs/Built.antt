@@ -1,15 +1,15 @@
 -- The days that were found make a schedule, or show why there is none.
-use Rattle.std.proofs.Common.{◌≡◌, ℕ, zero, suc, ◌+◌, ◌-◌, ◌<◌, ◌≤◌, Bool, true, false, leb, ◌⊎◌, List, get_or, ℤ, pos, ◌+ℤ◌, sym, refl, ap, ◌∙◌, subst, inl, inr, ⊎_elim, eq-or-lt_of_le, arith}
+use Rattle.std.proofs.Common.{◌≡◌, ℕ, zero, suc, ◌+◌, ◌-◌, ◌<◌, ◌≤◌, Bool, true, false, leb, List, ℤ, pos, ◌+ℤ◌, sym, ap, ◌∙◌, inl, inr, ⊎_elim, eq-or-lt_of_le, arith}
 use Rattle.std.proofs.lemmas.Bool.Decides.{leb_tells}
 use Rattle.quantity.specs.declared.date.Date.{Date}
 use Rattle.schedule.specs.declared.schedule.Schedule.{Schedule}
 use Rattle.schedule.specs.Meaning.{day_at, Scheduled}
 use Rattle.schedule.proofs.Indices.{Indexed, indexed}
-use Rattle.schedule.specs.Days.{epoch, at}
-use Rattle.schedule.specs.Rank.{rank, Before, NoneBefore}
+use Rattle.schedule.specs.Days.{at}
+use Rattle.schedule.specs.Rank.{rank}
 use Rattle.schedule.specs.Filled.{Filled, Stuck}
-use Rattle.schedule.specs.Refusals.{Reason, period, not_good, apart, Says, Far, number}
-use Rattle.schedule.proofs.Ranks.{rank_neighbour, rank_mono, rank_past, rank_same, last_before}
+use Rattle.schedule.specs.Refusals.{Reason, period, not_good, apart, Says, number}
+use Rattle.schedule.proofs.Ranks.{rank_neighbour, rank_mono, rank_same, last_before}
 
 -- a good day with none before it is a reason to refuse
 pub gap_from_stuck : (good : ℕ → Bool) (start end n : ℕ) → rank good start + n ≡ rank good end → Stuck good end n → Says good start end apart

@@ -1,4 +1,4 @@
-use Rattle.std.proofs.Common.{arith, rules}
+use Rattle.std.proofs.Common.{rules}
 use Rattle.calendar.proofs.Years.{new_year_limit}
 use Rattle.calendar.specs.Civil.{day_of}
 use Rattle.calendar.proofs.civil.day_of.Goals as goal

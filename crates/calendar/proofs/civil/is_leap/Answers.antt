@@ -1,5 +1,4 @@
-use Rattle.std.proofs.Common.{arith, rules}
-use Rattle.std.proofs.lemmas.Bool.Decides.{nat_tests}
+use Rattle.std.proofs.Common.{rules}
 use Rattle.calendar.specs.Civil.{is_leap}
 use Rattle.calendar.proofs.civil.is_leap.Goals as goal
 

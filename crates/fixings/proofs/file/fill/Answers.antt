@@ -1,6 +1,6 @@
 -- Each turn reads one field: the end, or one fixing more; a refusal is shut out.
 -- Assumes nothing.
-use Rattle.std.proofs.Common.{◌≡◌, ℕ, ◌+◌, List, [], ◌∷◌, ◌++◌, map, Ok, vec_items, vec_len, Option, Result, sym, refl, ap, ◌∙◌, arith}
+use Rattle.std.proofs.Common.{map, Ok, vec_items, Option, Result, ap, ◌∙◌, arith}
 use Rattle.std.specs.Option.{option_map}
 use Rattle.std.proofs.lemmas.List.{map_push}
 use Rattle.fixings.specs.declared.fixing.Fixing.{Fixing}

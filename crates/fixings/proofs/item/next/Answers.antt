@@ -1,4 +1,4 @@
-use Rattle.std.proofs.Common.{◌≡◌, sym, ap, ◌∙◌, rules}
+use Rattle.std.proofs.Common.{◌∙◌, rules}
 use Rattle.fixings.proofs.Readings.{verdict_none, verdict_2, verdict_9, verdict_other}
 use Rattle.fixings.proofs.item.next.Goals as goal
 

@@ -1,7 +1,7 @@
-use Rattle.std.proofs.Common.{◌≡◌, ◌+ℤ◌, ◌*ℤ◌, refl, ap, ◌∙◌, arith, w64, SFits, to_z, of_z}
+use Rattle.std.proofs.Common.{◌≡◌, ◌+ℤ◌, ◌*ℤ◌, arith, w64, to_z, of_z}
 use Rattle.std.proofs.lemmas.Int.{ints, to_z-of_z}
 use Rattle.rules.specs.Rounding.{floor_div}
-use Rattle.rules.proofs.Reach.{in_reach_is, part_fits, part_within, low_fits}
+use Rattle.rules.proofs.Reach.{in_reach_is, part_fits, low_fits}
 use Rattle.rules.proofs.rule.raised_low.Goals as goal
 
 pub overflow_mul-of : goal.overflow_mul-of

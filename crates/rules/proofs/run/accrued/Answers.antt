@@ -1,9 +1,7 @@
-use Rattle.std.proofs.Common.{◌≡◌, ◌+◌, ◌<◌, ◌≤◌, take, sym, ap, ◌∙◌, subst, arith, length-take, take_all, MatchOption}
+use Rattle.std.proofs.Common.{◌≡◌, ◌+◌, ◌≤◌, take, sym, ap, ◌∙◌, arith, length-take, take_all}
 use Rattle.quantity.specs.Refusals.{told}
 use Rattle.std.proofs.lemmas.Result.{err_from_is_err_and}
-use Rattle.rules.specs.Accrual.{weight_of, bounds_of, at_one}
-use Rattle.rules.specs.Rate.{Reports}
-use Rattle.rules.specs.declared.bounds.Bounds.{Bounds}
+use Rattle.rules.specs.Accrual.{weight_of, bounds_of}
 use Rattle.rules.proofs.Accrued.{accrues}
 use Rattle.rules.proofs.Exact.{weight_count}
 use Rattle.rules.proofs.Prefix.{bounds_next, weight_next, weight_take, tests_in_reach}

@@ -1,4 +1,4 @@
-use Rattle.std.proofs.Common.{◌≡◌, ℕ, ◌+◌, List, map, length, sym, ap, ◌∙◌, arith}
+use Rattle.std.proofs.Common.{ℕ, ◌+◌, List, map, sym, ap, ◌∙◌, arith}
 use Rattle.quantity.specs.declared.date.Date.{Date}
 use Rattle.calendar.specs.Holidays.{least_after}
 use Rattle.calendar.proofs.Rising.{least_of_last, least_of_none}

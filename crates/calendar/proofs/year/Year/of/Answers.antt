@@ -1,4 +1,4 @@
-use Rattle.std.proofs.Common.{ℕ, subst, arith, rules}
+use Rattle.std.proofs.Common.{ℕ, subst, arith}
 use Rattle.calendar.specs.Civil.{new_year, InYear}
 use Rattle.calendar.proofs.Years.{in_guess, before_guess}
 use Rattle.calendar.proofs.year.Year.of.Goals as goal

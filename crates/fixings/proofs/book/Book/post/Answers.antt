@@ -1,6 +1,6 @@
 -- The fixing goes in after those dated before it.
 -- Assumes nothing.
-use Rattle.std.proofs.Common.{◌≡◌, ◌<◌, true, false, length, take, sym, refl, ◌∙◌, arith, rules}
+use Rattle.std.proofs.Common.{◌≡◌, ◌<◌, length, take, sym, refl, ◌∙◌, arith, rules}
 use Rattle.std.proofs.lemmas.List.{length-map, length-take-le}
 use Rattle.quantity.proofs.Has.{has_first}
 use Rattle.fixings.specs.Fixings.{dates_of}
@@ -12,12 +12,16 @@ use Rattle.fixings.proofs.book.Book.post.Goals as goal
 pub invariant_of-self : goal.invariant_of-self
 invariant_of-self c =
     let within : c.args.self.now.count < length c.args.self.now.records = search rules in
-    let dates : length (dates_of (take c.args.self.now.count c.args.self.now.records)) ≡ c.args.self.now.count = length-map (take c.args.self.now.count c.args.self.now.records) (λ f. f.date.number) ∙ length-take-le c.args.self.now.count c.args.self.now.records (omega arith) in record { few = omega arith; rising = post_rises c.args.self.now.records c.args.self.now.count c.rank-i.result (record { date = c.args.date; rate = c.args.rate }) _ c.rank-i.ensures.within within
-            (turned c.args.self.now.records c.args.self.now.count c.rank-i.result _ _ c.rank-i.ensures.within within c.rotate_right.ensures.after)
-            c.args.self.now.rising c.rank-i.ensures.below
-            (after (dates_of (take c.args.self.now.count c.args.self.now.records)) c.args.date.number c.args.self.now.count c.rank-i.result c.place.result c.place.ensures.first (sym c.is_some.ensures ∙ c.if-is_some.false) dates c.rank-i.ensures.above); stepped = post_stepped c.args.self.now.benchmark c.args.self.now.records c.args.self.now.count c.rank-i.result (record { date = c.args.date; rate = c.args.rate }) _ c.rank-i.ensures.within within
-              (turned c.args.self.now.records c.args.self.now.count c.rank-i.result _ _ c.rank-i.ensures.within within c.rotate_right.ensures.after)
-              c.args.self.now.stepped (sym c.is_on_step.ensures ∙ c.if-not-is_on_step.false) }
+    let dates : length (dates_of (take c.args.self.now.count c.args.self.now.records)) ≡ c.args.self.now.count = length-map (take c.args.self.now.count c.args.self.now.records) (λ f. f.date.number) ∙ length-take-le c.args.self.now.count c.args.self.now.records (omega arith) in record {
+      few = omega arith;
+      rising = post_rises c.args.self.now.records c.args.self.now.count c.rank-i.result (record { date = c.args.date; rate = c.args.rate }) _ c.rank-i.ensures.within within
+          (turned c.args.self.now.records c.args.self.now.count c.rank-i.result _ _ c.rank-i.ensures.within within c.rotate_right.ensures.after)
+          c.args.self.now.rising c.rank-i.ensures.below
+          (after (dates_of (take c.args.self.now.count c.args.self.now.records)) c.args.date.number c.args.self.now.count c.rank-i.result c.place.result c.place.ensures.first (sym c.is_some.ensures ∙ c.if-is_some.false) dates c.rank-i.ensures.above);
+      stepped = post_stepped c.args.self.now.benchmark c.args.self.now.records c.args.self.now.count c.rank-i.result (record { date = c.args.date; rate = c.args.rate }) _ c.rank-i.ensures.within within
+          (turned c.args.self.now.records c.args.self.now.count c.rank-i.result _ _ c.rank-i.ensures.within within c.rotate_right.ensures.after)
+          c.args.self.now.stepped (sym c.is_on_step.ensures ∙ c.if-not-is_on_step.false);
+    }
 
 pub returns-then-not-is_on_step : goal.returns-then-not-is_on_step
 returns-then-not-is_on_step c = record { judged = off_step c.args.self.now.benchmark c.args.rate.ticks _ (sym c.is_on_step.ensures ∙ c.if-not-is_on_step.true); done = refl }

@@ -7,10 +7,14 @@ use Rattle.fixings.proofs.Verdicts.{is_known, is_unknown, off_step, on_step}
 use Rattle.fixings.proofs.book.Book.restate.Goals as goal
 
 pub invariant_of-self : goal.invariant_of-self
-invariant_of-self c = record { few = c.args.self.now.few; rising = ap (λ fs. rises (dates_of (take c.args.self.now.count fs))) (set-altered c.args.self.now.records c.in-Some.i _ c.args.rate)
-        ∙ ap rises (dates_altered c.args.self.now.records c.args.self.now.count c.in-Some.i c.args.rate)
-        ∙ c.args.self.now.rising; stepped = ap (λ fs. all_on_step c.args.self.now.benchmark (take c.args.self.now.count fs)) (set-altered c.args.self.now.records c.in-Some.i _ c.args.rate)
-          ∙ restate_stepped c.args.self.now.benchmark c.args.self.now.records c.args.self.now.count c.in-Some.i c.args.rate c.args.self.now.stepped (sym c.is_on_step.ensures ∙ c.if-not-is_on_step.false) }
+invariant_of-self c = record {
+  few = c.args.self.now.few;
+  rising = ap (λ fs. rises (dates_of (take c.args.self.now.count fs))) (set-altered c.args.self.now.records c.in-Some.i _ c.args.rate)
+      ∙ ap rises (dates_altered c.args.self.now.records c.args.self.now.count c.in-Some.i c.args.rate)
+      ∙ c.args.self.now.rising;
+  stepped = ap (λ fs. all_on_step c.args.self.now.benchmark (take c.args.self.now.count fs)) (set-altered c.args.self.now.records c.in-Some.i _ c.args.rate)
+      ∙ restate_stepped c.args.self.now.benchmark c.args.self.now.records c.args.self.now.count c.in-Some.i c.args.rate c.args.self.now.stepped (sym c.is_on_step.ensures ∙ c.if-not-is_on_step.false);
+}
 
 pub returns-then-not-is_on_step : goal.returns-then-not-is_on_step
 returns-then-not-is_on_step c = record { judged = off_step c.args.self.now.benchmark c.args.rate.ticks _ (sym c.is_on_step.ensures ∙ c.if-not-is_on_step.true); done = refl }

@@ -1,4 +1,4 @@
-use Rattle.std.proofs.Common.{Bool, List, map, refl, ap, arith}
+use Rattle.std.proofs.Common.{List, map, ap, arith}
 use Rattle.fixings.specs.declared.fixing.Fixing.{Fixing}
 use Rattle.quantity.specs.declared.benchmark.BenchmarkCode.TheVariants.{Sofr}
 use Rattle.fixings.specs.Files.{entry_of, lawful_from}

@@ -1,6 +1,6 @@
 -- Half of the places is left at each turn, since dates rise.
 -- Assumes nothing.
-use Rattle.std.proofs.Common.{◌≡◌, ℕ, ◌+◌, ◌-◌, ◌/◌, ◌<◌, length, vec_items, vec_len, sym, ap, ◌∙◌, arith, below_more}
+use Rattle.std.proofs.Common.{◌≡◌, ◌+◌, ◌-◌, ◌/◌, ◌<◌, length, vec_items, vec_len, sym, ◌∙◌, arith, below_more}
 use Rattle.std.proofs.lemmas.List.{length-map}
 use Rattle.fixings.specs.Fixings.{dates_of}
 use Rattle.fixings.specs.declared.fixing.Fixing.{Fixing}

@@ -1,6 +1,5 @@
-use Rattle.std.proofs.Common.{◌≡◌, List, Ok, Result, sym, refl, ap, ◌∙◌, arith}
+use Rattle.std.proofs.Common.{List, Ok, sym, refl, ap, ◌∙◌, arith}
 use Rattle.std.proofs.lemmas.Result.{err_from_is_err_and}
-use Rattle.quantity.specs.Refusals.{Told}
 use Rattle.fixings.specs.Files.{Entry, lawful_from}
 use Rattle.fixings.proofs.Lawful.{entries_lawful}
 use Rattle.fixings.proofs.Readings.{parse_err, parse_code}

@@ -1,4 +1,4 @@
-use Rattle.std.proofs.Common.{◌≡◌, Some, vec_items, sym, ap, ◌∙◌, arith}
+use Rattle.std.proofs.Common.{Some, vec_items, ap, ◌∙◌, arith}
 use Rattle.std.proofs.lemmas.List.{length-map}
 use Rattle.fixings.specs.declared.fixing.Fixing.{Fixing}
 use Rattle.fixings.proofs.Books.{rate_at-some, rate_at_none}

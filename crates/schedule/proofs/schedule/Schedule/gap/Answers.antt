@@ -1,5 +1,5 @@
-use Rattle.std.proofs.Common.{◌≡◌, ◌+◌, ◌-◌, true, ℤ, pos, ◌+ℤ◌, nat_abs, Some, ap, subst, arith, w32, SFits, rules}
-use Rattle.std.proofs.lemmas.Int.{to_z-of_z, ints}
+use Rattle.std.proofs.Common.{◌≡◌, ◌+◌, ◌-◌, true, ℤ, pos, ◌+ℤ◌, nat_abs, Some, ap, subst, w32, SFits, rules}
+use Rattle.std.proofs.lemmas.Int.{to_z-of_z}
 use Rattle.schedule.specs.Positions.{within}
 use Rattle.schedule.specs.Days.{at}
 use Rattle.schedule.proofs.Indices.{gap_is}

@@ -1,4 +1,4 @@
-use Rattle.std.proofs.Common.{◌≡◌, min, ◌∙◌, arith}
+use Rattle.std.proofs.Common.{min, ◌∙◌, arith}
 use Rattle.schedule.proofs.Consecutive.{one_more}
 use Rattle.schedule.proofs.schedule.Schedule.new.Goals as goal
 use Rattle.schedule.proofs.schedule.Schedule.new.Goals.{in-Ok, in_default}

@@ -1,7 +1,7 @@
-use Rattle.std.proofs.Common.{◌≡◌, ◌+◌, ◌<◌, length, get_or, ap, arith, rules}
+use Rattle.std.proofs.Common.{◌+◌, ◌<◌, length, ap, arith, rules}
 use Rattle.std.proofs.lemmas.List.{get_or_default}
 use Rattle.quantity.specs.declared.date.Date.{Date}
-use Rattle.schedule.specs.Days.{epoch, at}
+use Rattle.schedule.specs.Days.{epoch}
 use Rattle.schedule.proofs.schedule.Schedule.step.Goals as goal
 
 pub overflow_sub-number : goal.overflow_sub-number
