@@ -17,7 +17,7 @@ use Rattle.coupon.specs.declared.line.Line.{Line}
 use Rattle.coupon.specs.declared.lines.Lines.{Lines}
 use Rattle.coupon.specs.declared.terms.Terms.{Terms}
 use Rattle.coupon.proofs.Admitted.{refused_is, taken, took_same}
-use Rattle.coupon.proofs.Equal.{mark_self, number_self, same_self}
+use Rattle.coupon.specs.SameLines.{mark_self, number_self, same_self}
 use Rattle.coupon.proofs.Owned.{count_of}
 use Rattle.coupon.proofs.Rows.{and_parts}
 use Rattle.account.specs.declared.account.Account.{Account}

@@ -1,5 +1,4 @@
 pub mod Rows
-pub mod Equal
 pub mod Owned
 pub mod Admitted
 pub mod Positions

@@ -1,6 +1,6 @@
 -- What the lines of a coupon say is what the rules give for the days that they bear.
 -- Assumes nothing.
-use Rattle.std.proofs.Common.{◌≡◌, ℕ, ◌<◌, ◌≤◌, true, ◌&&◌, List, [], ◌∷◌, ◌++◌, length, Some, None, vec_len, Option, sym, refl, ap, ◌∙◌, subst, arith}
+use Rattle.std.proofs.Common.{◌≡◌, ◌≤◌, true, ◌&&◌, List, length, None, vec_len, sym, refl, ap, ◌∙◌, arith}
 use Rattle.std.proofs.lemmas.List.{length-map}
 use Rattle.std.proofs.lemmas.Bool.{and_from}
 use Rattle.rules.specs.Reach.{is_in_reach}
@@ -43,10 +43,10 @@ row_in_reach t ds few =
     let base = year_base t in
     let grown = chosen_factor t.rule base in
     let widened = chosen_bounds t.rule base in
-    let keeps = chosen_keeps t.rule base in
+    let keeps = chosen_keeps t.rule base (λ k x o. refl) (λ k x o. refl) in
     tests_in_reach base (seen ds) _ _ few (encloses_of base grown widened keeps (seen ds) few) (narrow_of base grown widened keeps (seen ds) few) (moderate_of base grown widened keeps (seen ds) few)
 
-pub bounds_in-reach : (t : Terms) (ds : List Day) (b : Bounds) → weight_of ds ≤ 400 → b ≡ bounds_at t ds → (is_in_reach b.lo && is_in_reach b.hi) ≡ true
-bounds_in-reach t ds b few e =
+pub bounds_in_reach : (t : Terms) (ds : List Day) (b : Bounds) → weight_of ds ≤ 400 → b ≡ bounds_at t ds → (is_in_reach b.lo && is_in_reach b.hi) ≡ true
+bounds_in_reach t ds b few e =
     let r = row_in_reach t ds few in
     and_from _ _ (ap (λ (x : Bounds). is_in_reach x.lo) e ∙ r.0) (ap (λ (x : Bounds). is_in_reach x.hi) e ∙ r.1)

@@ -1,6 +1,6 @@
 -- Laws of the lines that the rules give for a row of days.
 -- Assumes nothing.
-use Rattle.std.proofs.Common.{◌≡◌, ℕ, zero, suc, ◌+◌, ◌-◌, ◌<◌, ◌≤◌, Bool, true, false, ◌&&◌, List, [], ◌∷◌, ◌++◌, map, length, get_or, take, ℤ, pos, negsuc, ◌-ℤ◌, Some, None, Option, sym, refl, ap, ◌∙◌, subst, arith, Bor}
+use Rattle.std.proofs.Common.{◌≡◌, ℕ, zero, suc, ◌+◌, ◌-◌, ◌≤◌, Bool, true, false, ◌&&◌, List, [], ◌∷◌, ◌++◌, length, get_or, take, ℤ, ◌-ℤ◌, Some, None, Option, sym, refl, ap, ◌∙◌, subst, arith, Bor}
 use Rattle.std.proofs.lemmas.List.{map-append, append-nil, append_assoc, length-map}
 use Rattle.std.proofs.lemmas.Int.{ints}
 use Rattle.std.proofs.lemmas.Bool.{and_from}
@@ -13,7 +13,6 @@ use Rattle.rules.specs.Accrual.{at_one, carried}
 use Rattle.rules.specs.Chosen.{chosen_bounds}
 use Rattle.rules.specs.Rate.{SmallAmount, amount_of, rate_of, same}
 use Rattle.rules.specs.declared.bounds.Bounds.{Bounds}
-use Rattle.rules.specs.declared.observation.Observation.{Observation}
 use Rattle.rules.proofs.Exact.{weight_count}
 use Rattle.rules.proofs.Prefix.{carried-push}
 use Rattle.coupon.specs.declared.day.Day.{Day}

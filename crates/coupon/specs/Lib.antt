@@ -4,3 +4,4 @@ pub mod Lines
 pub mod Coupons
 pub mod Verdicts
 pub mod Sound
+pub mod SameLines

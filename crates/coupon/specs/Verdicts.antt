@@ -1,6 +1,6 @@
 -- Why a day, a position or a pile is turned down, on the terms and the days that stand.
 -- Assumes nothing.
-use Rattle.std.specs.Prelude.{ℕ, ◌+◌, Bool, true, false, cond, ◌&&◌, List, [], ◌∷◌, length, take, ℤ, pos, negsuc, Some, None, Ok, Err, Option, Result, nat_le, nat_lt}
+use Rattle.std.specs.Prelude.{ℕ, ◌+◌, Bool, false, cond, ◌&&◌, List, [], ◌∷◌, length, take, ℤ, pos, negsuc, Some, None, Ok, Err, Option, Result, nat_le, nat_lt}
 use Rattle.std.specs.List.{slice_get}
 use Rattle.quantity.specs.Refusals.{Told, plain, faulted}
 use Rattle.quantity.specs.declared.fault.Fault.{Fault}

@@ -29,7 +29,7 @@ pub(crate) fn position(count: u32) -> Position
 // The day that a pile gives for the line after `count` others, or its fault: the rate's before the weight's.
 pub(crate) fn observe<P: Observations>(pile: &P, count: u32) -> Result<Day, Fault>
     requires { count ≤ 400 }
-    ensures { result ≡ day_at (meaning pile.now) count }
+    ensures { result ≡ day_at (P.meaning pile.now) count }
 {
     let ObservedRate { rate, observed } = pile.rate(position(count))?;
     let weight = pile.weight(position(count))?;

@@ -1,7 +1,5 @@
-ghost use Rattle.std.specs.Prelude.{◌≡◌, Decides};
+ghost use Rattle.std.specs.Prelude.{◌≡◌, ◌↔◌, IsTrue};
 ghost use Rattle.coupon.specs.Equal.{same_amounts, same_factor, same_line, same_report};
-ghost use Rattle.std.specs.Cmp.Rules.{comparing};
-ghost use Rattle.std.proofs.Common.{rules};
 
 use crate::day::{Day, same_day};
 use quantity::days::DayCount;
@@ -46,11 +44,16 @@ fn same_line(a: Line, b: Line) -> bool
 
 // Lines are equal where every part is.
 impl PartialEq for Line {
-    ghost equals = { λ x y r. Decides r (x ≡ y) };
+    ghost use Rattle.coupon.specs.SameLines.{line_laws};
 
-    ghost laws = { Prim.search (comparing, rules) };
+    ghost eq = { same_line };
 
-    fn eq(&self, other: &Line) -> bool {
+    ghost laws = { line_laws };
+
+    fn eq(&self, other: &Line) -> bool
+        ensures every_part { result ≡ same_line self.now other.now }
+        ensures exact { IsTrue result ↔ (self.now ≡ other.now) }
+    {
         same_line(*self, *other)
     }
 }

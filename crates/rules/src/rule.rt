@@ -1,5 +1,5 @@
 // The rules by which a factor grows.
-ghost use Rattle.std.specs.Prelude.{◌≡◌, ℕ, ◌<◌, ◌≤◌, true, List, ℤ, ◌+ℤ◌, ◌*ℤ◌};
+ghost use Rattle.std.specs.Prelude.{◌≡◌, ℕ, ◌<◌, ◌≤◌, true, List, ℤ, ◌+ℤ◌, ◌*ℤ◌, refl};
 ghost use Rattle.quantity.specs.declared.year.YearBase.{YearBase as Year};
 ghost use Rattle.rules.specs.Rounding.{floor_div, ceil_div};
 ghost use Rattle.rules.specs.Reach.{is_in_reach, SmallGain};
@@ -71,11 +71,11 @@ impl AccrualRule for Compounded {
 
     ghost widened = { λ _. compounded_bounds };
 
-    ghost encloses = { λ rule base os few. encloses_of base (compounded_factor base) (compounded_bounds base) (compounded_keeps base) os few };
+    ghost encloses = { λ rule base os few. encloses_of base (compounded_factor base) (compounded_bounds base) (compounded_keeps base (compounded_factor base) (λ k x o. refl)) os few };
 
-    ghost narrow = { λ rule base os few. narrow_of base (compounded_factor base) (compounded_bounds base) (compounded_keeps base) os few };
+    ghost narrow = { λ rule base os few. narrow_of base (compounded_factor base) (compounded_bounds base) (compounded_keeps base (compounded_factor base) (λ k x o. refl)) os few };
 
-    ghost moderate = { λ rule base os few. moderate_of base (compounded_factor base) (compounded_bounds base) (compounded_keeps base) os few };
+    ghost moderate = { λ rule base os few. moderate_of base (compounded_factor base) (compounded_bounds base) (compounded_keeps base (compounded_factor base) (λ k x o. refl)) os few };
 
     fn step(
         &self,
@@ -103,11 +103,11 @@ impl AccrualRule for Simple {
 
     ghost widened = { λ _. simple_bounds };
 
-    ghost encloses = { λ rule base os few. encloses_of base (simple_factor base) (simple_bounds base) (simple_keeps base) os few };
+    ghost encloses = { λ rule base os few. encloses_of base (simple_factor base) (simple_bounds base) (simple_keeps base (simple_factor base) (λ k x o. refl)) os few };
 
-    ghost narrow = { λ rule base os few. narrow_of base (simple_factor base) (simple_bounds base) (simple_keeps base) os few };
+    ghost narrow = { λ rule base os few. narrow_of base (simple_factor base) (simple_bounds base) (simple_keeps base (simple_factor base) (λ k x o. refl)) os few };
 
-    ghost moderate = { λ rule base os few. moderate_of base (simple_factor base) (simple_bounds base) (simple_keeps base) os few };
+    ghost moderate = { λ rule base os few. moderate_of base (simple_factor base) (simple_bounds base) (simple_keeps base (simple_factor base) (λ k x o. refl)) os few };
 
     fn step(
         &self,
@@ -138,11 +138,11 @@ impl AccrualRule for Rule {
 
     ghost widened = { chosen_bounds };
 
-    ghost encloses = { λ rule base os few. encloses_of base (chosen_factor rule base) (chosen_bounds rule base) (chosen_keeps rule base) os few };
+    ghost encloses = { λ rule base os few. encloses_of base (chosen_factor rule base) (chosen_bounds rule base) (chosen_keeps rule base (λ k x o. refl) (λ k x o. refl)) os few };
 
-    ghost narrow = { λ rule base os few. narrow_of base (chosen_factor rule base) (chosen_bounds rule base) (chosen_keeps rule base) os few };
+    ghost narrow = { λ rule base os few. narrow_of base (chosen_factor rule base) (chosen_bounds rule base) (chosen_keeps rule base (λ k x o. refl) (λ k x o. refl)) os few };
 
-    ghost moderate = { λ rule base os few. moderate_of base (chosen_factor rule base) (chosen_bounds rule base) (chosen_keeps rule base) os few };
+    ghost moderate = { λ rule base os few. moderate_of base (chosen_factor rule base) (chosen_bounds rule base) (chosen_keeps rule base (λ k x o. refl) (λ k x o. refl)) os few };
 
     fn step(
         &self,

@@ -86,7 +86,7 @@ impl Lines {
 
     // The pile's day for the next line, or why there is none.
     fn due_day<P: Observations>(&self, pile: &P) -> Result<Day, Refusal>
-        ensures { answered result ≡ due_day self.now.terms (borne self.now) (meaning pile.now) }
+        ensures { answered result ≡ due_day self.now.terms (borne self.now) (P.meaning pile.now) }
     {
         let k = self.count();
         if k >= self.terms.n {
@@ -144,8 +144,8 @@ impl Lines {
 
     // Adds the line of the pile's next day.
     pub fn accrue<P: Observations>(&mut self, pile: &P) -> Result<(), Refusal>
-        ensures judged { refused result ≡ refusal_of (admitted self.old.terms (borne self.old) (meaning pile.now)) }
-        ensures took { Took (admitted self.old.terms (borne self.old) (meaning pile.now)) self.old self.new }
+        ensures judged { refused result ≡ refusal_of (admitted self.old.terms (borne self.old) (P.meaning pile.now)) }
+        ensures took { Took (admitted self.old.terms (borne self.old) (P.meaning pile.now)) self.old self.new }
     {
         let day = self.due_day(pile)?;
         let line = self.next_line(day)?;

@@ -145,7 +145,7 @@ impl Lines {
 
     // Whether a pile has the days of the period: their number, the start and the end.
     pub(crate) fn is_of_period<P: Observations>(&self, pile: &P) -> bool
-        ensures { result ≡ same_period self.now.terms (meaning pile.now) }
+        ensures { result ≡ same_period self.now.terms (P.meaning pile.now) }
     {
         let n = pile.length();
         n == self.terms.n
@@ -155,7 +155,7 @@ impl Lines {
 
     // The first position where a pile differs from the lines or faults, or else the position after them; refusal 16 for a pile of another period.
     pub fn check<P: Observations>(&self, pile: &P) -> Result<Position, Refusal>
-        ensures { answered result ≡ checked self.now.terms (borne self.now) (meaning pile.now) }
+        ensures { answered result ≡ checked self.now.terms (borne self.now) (P.meaning pile.now) }
     {
         if !self.is_of_period(pile) {
             return Err(Refusal::OtherPeriod);
@@ -166,7 +166,7 @@ impl Lines {
 
 fn first_difference<P: Observations>(pile: &P, lines: &[Line]) -> Position
     requires { length lines.now ≤ 400 }
-    ensures { result ≡ position_at (first_difference (meaning pile.now) 0 (days_of lines.now)) }
+    ensures { result ≡ position_at (first_difference (P.meaning pile.now) 0 (days_of lines.now)) }
 {
     let mut i = 0;
     for line in lines {

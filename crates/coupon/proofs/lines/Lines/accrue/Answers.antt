@@ -1,4 +1,4 @@
-use Rattle.std.proofs.Common.{Some, None, sym, refl, ap, ◌∙◌, arith}
+use Rattle.std.proofs.Common.{Some, sym, refl, ap, ◌∙◌, arith}
 use Rattle.quantity.specs.Refusals.{told}
 use Rattle.std.proofs.lemmas.Result.{err_from_is_err_and}
 use Rattle.coupon.specs.Coupons.{borne, held}

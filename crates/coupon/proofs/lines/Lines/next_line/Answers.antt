@@ -1,10 +1,10 @@
-use Rattle.std.proofs.Common.{◌≡◌, ◌+◌, ◌-◌, ◌≤◌, [], ◌∷◌, ◌++◌, length, ◌-ℤ◌, sym, refl, ap, ◌∙◌, subst, true≢false, arith, w32, w64, SFits, rules}
+use Rattle.std.proofs.Common.{◌≡◌, ◌≤◌, [], ◌∷◌, ◌++◌, ◌-ℤ◌, sym, ap, ◌∙◌, true≢false, arith, w64, SFits, rules}
 use Rattle.std.proofs.lemmas.Int.{ints, to_z-of_z}
 use Rattle.rules.specs.Rate.{amount_of}
 use Rattle.coupon.specs.Coupons.{borne}
-use Rattle.coupon.specs.Lines.{bounds_at, weight_of}
+use Rattle.coupon.specs.Lines.{weight_of}
 use Rattle.coupon.proofs.Admitted.{light_goes}
-use Rattle.coupon.proofs.Owned.{bounds_in-reach}
+use Rattle.coupon.proofs.Owned.{bounds_in_reach}
 use Rattle.coupon.proofs.Rows.{line_is, step_is, weight_push}
 use Rattle.coupon.proofs.lines.Lines.next_line.Goals as goal
 
@@ -14,7 +14,7 @@ unreachable-requires c =
     let ds = borne l ++ c.args.day ∷ [] in
     let few : weight_of ds ≤ 400 = omega (arith, weight_push (borne l) c.args.day, c.total.ensures, c.in_ok-total.ensures, c.in_ok-total.total.most) in
     let bounded = step_is l.terms (borne l) c.args.day c.year_base-base.result c.count.result c.moderate.result.bounds c.step-bounds.result c.year_base-base.ensures c.count.ensures.value c.moderate.ensures c.step-bounds.ensures in
-    true≢false (sym (bounds_in-reach l.terms ds c.step-bounds.result few bounded) ∙ c.in_default.ensures)
+    true≢false (sym (bounds_in_reach l.terms ds c.step-bounds.result few bounded) ∙ c.in_default.ensures)
 
 pub overflow_sub-result : goal.overflow_sub-result
 overflow_sub-result c =

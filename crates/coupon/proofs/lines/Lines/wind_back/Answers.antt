@@ -1,4 +1,4 @@
-use Rattle.std.proofs.Common.{length, refl, ap, ◌∙◌, arith}
+use Rattle.std.proofs.Common.{refl, ap, ◌∙◌, arith}
 use Rattle.coupon.specs.Coupons.{borne, held}
 use Rattle.coupon.specs.Lines.{all_modest, days_of}
 use Rattle.coupon.proofs.Owned.{count_of}

@@ -1,4 +1,4 @@
-use Rattle.std.proofs.Common.{◌≡◌, sym, ap, ◌∙◌, arith}
+use Rattle.std.proofs.Common.{sym, ap, ◌∙◌, arith}
 use Rattle.coupon.specs.declared.line.Line.{Line}
 use Rattle.coupon.specs.Days.{day_at, same_day}
 use Rattle.coupon.proofs.Positions.{difference_here, difference_later, difference_none, place}

@@ -3,20 +3,19 @@
 use Rattle.std.proofs.Common.{◌≡◌, ℕ, ◌≤◌, Bool, true, false, eqb, leb, ℤ, pos, negsuc, ◌≤ℤ◌, Ok, Decides, sym, refl, ap, ◌∙◌, arith}
 use mathlib.Core.HLevel.{Σ_prop_path}
 use native.Mathlib.Bridge.{le_prop}
-use denote.Struct.Props.{≤ℤ_prop}
-use Rattle.std.proofs.lemmas.Bool.{eqb-true, eq-eqb, le-leb, and_from}
+use Rattle.std.proofs.lemmas.Bool.{eqb-true, eq-eqb, le-leb, and_from, and_parts}
+use Rattle.std.proofs.Props.{props}
+use Rattle.std.specs.Cmp.{IsPartialEquivalence, both_ways}
 use Rattle.quantity.specs.declared.date.Date.{Date}
 use Rattle.quantity.specs.declared.rate.Rate.{Rate}
 use Rattle.quantity.specs.declared.weight.Weight.{Weight}
 use Rattle.pile.specs.Joined.{weight_same}
 use Rattle.rules.specs.Rate.{same}
-use Rattle.rules.specs.declared.bounds.Bounds.{Bounds}
 use Rattle.rules.proofs.Exact.{same_is}
 use Rattle.coupon.specs.declared.day.Day.{Day}
 use Rattle.coupon.specs.declared.line.Line.{Line}
 use Rattle.coupon.specs.Days.{same_day}
 use Rattle.coupon.specs.Equal.{same_amounts, same_factor, same_line, same_mark, same_report}
-use Rattle.coupon.proofs.Rows.{and_parts}
 
 -- a quantity is known by its number
 date_same : (x y : Date) → x.number ≡ y.number → x ≡ y
@@ -27,8 +26,8 @@ date_same x y e =
 rate_same : (x y : Rate) → x.ticks ≡ y.ticks → x ≡ y
 rate_same x y e =
     let made : ((q : ((z : ℤ) × (negsuc 249999 ≤ℤ z))) × (q.0 ≤ℤ pos 250000)) → Rate = λ p. record { ticks = p.0.0; least = p.0.1; most = p.1 } in
-    let low : ◌≡◌ {A = (z : ℤ) × (negsuc 249999 ≤ℤ z)} (x.ticks, x.least) (y.ticks, y.least) = Σ_prop_path (λ z. ≤ℤ_prop) e in
-    ap made (Σ_prop_path (λ q. ≤ℤ_prop) {u = ((x.ticks, x.least), x.most)} {v = ((y.ticks, y.least), y.most)} low)
+    let low : ◌≡◌ {A = (z : ℤ) × (negsuc 249999 ≤ℤ z)} (x.ticks, x.least) (y.ticks, y.least) = Σ_prop_path (λ z. hlevel props) e in
+    ap made (Σ_prop_path (λ q. hlevel props) {u = ((x.ticks, x.least), x.most)} {v = ((y.ticks, y.least), y.most)} low)
 
 abbrev made_day : Date → Date → Weight → Rate → Date → Day
 made_day d n w r o = record { date = d; next = n; weight = w; rate = r; observed = o }
@@ -97,3 +96,12 @@ line_self x =
 
 pub line_decides : (x y : Line) (r : Bool) → r ≡ same_line x y → Decides r (x ≡ y)
 line_decides x y r h = (λ t. line_same x y (sym h ∙ t), λ e. h ∙ ap (same_line x) (sym e) ∙ line_self x)
+
+symm_from : (x y : Line) → same_line x y ≡ true → same_line y x ≡ true
+symm_from x y h = ap (λ z. same_line z x) (sym (line_same x y h)) ∙ line_self x
+
+pub line_laws : IsPartialEquivalence same_line
+line_laws = record {
+  symm = λ x y. both_ways (same_line x y) (same_line y x) (symm_from x y) (symm_from y x);
+  trans = λ x y z p q. ap (λ w. same_line w z) (line_same x y p) ∙ q;
+}
