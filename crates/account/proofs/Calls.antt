@@ -1,6 +1,6 @@
 -- What each call comes to, by what its parts answer.
 -- Assumes nothing.
-use Rattle.std.proofs.Common.{◌≡◌, ℕ, ◌<◌, ◌≤◌, Bool, true, false, cond, ◌&&◌, eqb, ltb, leb, List, [], ◌∷◌, ◌++◌, length, ℤ, Some, None, Ok, Err, Option, Result, sym, refl, ap, ◌∙◌, subst, arith}
+use Rattle.std.proofs.Common.{◌≡◌, ℕ, ◌<◌, ◌≤◌, Bool, true, false, cond, ltb, length, ℤ, Some, None, Ok, Err, Option, Result, sym, refl, ap, ◌∙◌, subst, arith}
 use Rattle.std.proofs.lemmas.Bool.{and_from, eq-eqb, le-leb, lt-leb}
 use Rattle.quantity.specs.Refusals.{Told, answered, plain, told}
 use Rattle.quantity.specs.declared.position.Position.{Position}
@@ -29,7 +29,7 @@ use Rattle.account.specs.Accounts.{standing_of, tally_of, terms_of}
 use Rattle.account.specs.Histories.{Done}
 use Rattle.account.specs.Replies.{check_answer, line_answer}
 use Rattle.account.specs.Phases.{allows, fits, in_phase, moved, phase_after, settled_phase}
-use Rattle.account.specs.Tally.{Answer, Tally, accrue, accrued, agrees, answering, appended, carried, check, close, closing, denied, holds, judge, now_due, or_incomplete, outcome, pay, read, receipted, ruling, same_figures, stands, status, unless_some, wind_back, withdraw, withdrawn, wound_back}
+use Rattle.account.specs.Tally.{Answer, Tally, accrue, accrued, agrees, answering, appended, check, close, closing, denied, holds, judge, now_due, or_incomplete, outcome, pay, read, receipted, ruling, same_figures, stands, status, unless_some, wind_back, withdraw, withdrawn, wound_back}
 use Rattle.account.proofs.Goes.{admitted-given}
 use Rattle.account.proofs.Made.{account_same, goes_through, in_phase_lem, phase_after_lem, turned_down}
 use Rattle.account.proofs.States.{tally-same}

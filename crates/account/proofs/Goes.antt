@@ -1,21 +1,19 @@
 -- Each standing day was admitted, over the pile that gave it, when just the days before it stood.
 -- Every call keeps this, since winding back takes days off the end only.
 -- Assumes nothing.
-use Rattle.std.proofs.Common.{◌≡◌, ℕ, zero, suc, ◌<◌, ◌≤◌, Bool, true, false, cond, ◌&&◌, ltb, List, [], ◌∷◌, ◌++◌, map, length, take, ℤ, pos, negsuc, Some, None, Ok, Err, Option, Result, sym, refl, ap, ◌∙◌, subst, arith}
+use Rattle.std.proofs.Common.{◌≡◌, ℕ, zero, suc, Bool, true, false, cond, ◌&&◌, ltb, List, [], ◌∷◌, ◌++◌, map, length, take, ℤ, pos, negsuc, Some, None, Ok, Err, Option, Result, sym, refl, ap, ◌∙◌, subst, arith}
 use Rattle.std.proofs.lemmas.List.{append-nil, append_assoc}
 use Rattle.quantity.specs.Refusals.{Told, plain}
 use Rattle.quantity.specs.declared.fault.Fault.{Fault}
 use Rattle.pile.specs.Piles.{Pile}
 use Rattle.coupon.specs.Days.{day_at, is_date, same_period}
 use Rattle.coupon.specs.Lines.{next_date, weight_of}
-use Rattle.coupon.specs.Verdicts.{admitted, and_light, due_day, front, given, lightest, refusal_of}
+use Rattle.coupon.specs.Verdicts.{admitted, and_light, due_day, front, given, refusal_of}
 use Rattle.coupon.specs.declared.day.Day.{Day}
 use Rattle.coupon.specs.declared.terms.Terms.{Terms}
-use Rattle.account.specs.declared.phase.Phase.{Phase}
 use Rattle.account.specs.declared.phase.Phase.TheVariants.{Accruing}
-use Rattle.account.specs.Phases.{allows, in_phase}
 use Rattle.account.specs.Histories.{Through}
-use Rattle.account.specs.Tally.{Answer, Call, Tally, accrue, accrued, advance, answering, appended, begun, carried, check, close, givers_from, given_by, givers, judge, outcome, pay, read, ruling, status, tally, tally_from, unless_refused, wind_back, withdraw}
+use Rattle.account.specs.Tally.{Call, Tally, accrue, accrued, advance, answering, appended, begun, carried, check, close, givers_from, given_by, givers, judge, pay, read, status, tally, tally_from, unless_refused, wind_back, withdraw}
 
 -- an admitted day is the pile's
 

@@ -1,6 +1,6 @@
 -- A call that goes through, and one that is turned down.
 -- Assumes nothing.
-use Rattle.std.proofs.Common.{◌≡◌, ℕ, Bool, true, false, cond, List, [], ◌∷◌, ◌++◌, length, Some, None, Ok, Err, Result, sym, refl, ap, ◌∙◌, subst, arith}
+use Rattle.std.proofs.Common.{◌≡◌, ℕ, Bool, true, false, cond, length, Some, None, Ok, Err, Result, sym, refl, ap, ◌∙◌, arith}
 use mathlib.Core.Bool.{Bool-set}
 use mathlib.Core.HLevel.{Σ_prop_path}
 use Rattle.quantity.specs.Refusals.{Told, plain}
@@ -13,7 +13,7 @@ use Rattle.account.specs.declared.phase.Kind.{Kind}
 use Rattle.account.specs.Accounts.{tally_of, terms_of}
 use Rattle.account.specs.Histories.{Done, Performed}
 use Rattle.account.specs.Phases.{allows, fits, in_phase, moved, phase_after}
-use Rattle.account.specs.Tally.{Answer, Call, Tally, advance, answer_by, carried, denied, kind_of, outcome, ruling, unless_refused}
+use Rattle.account.specs.Tally.{Answer, Call, answer_by, carried, denied, kind_of, outcome, ruling, unless_refused}
 use Rattle.account.proofs.States.{account_adds, reached_more, states}
 
 -- two accounts of one phase and the same lines are equal

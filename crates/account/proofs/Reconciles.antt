@@ -1,9 +1,9 @@
 -- A holder's account accrued over piles, and what it shows.
 -- Assumes nothing.
-use Rattle.std.proofs.Common.{◌≡◌, ℕ, ◌+◌, ◌<◌, ◌≤◌, Bool, true, false, cond, ◌&&◌, ltb, leb, List, [], ◌∷◌, ◌++◌, map, length, get_or, take, is_ok, Some, None, Ok, Err, Decides, Result, sym, refl, ap, ◌∙◌, subst, arith, Bor}
+use Rattle.std.proofs.Common.{◌≡◌, ℕ, ◌+◌, ◌<◌, ◌≤◌, Bool, true, false, cond, ◌&&◌, ltb, List, [], ◌∷◌, ◌++◌, map, length, get_or, take, is_ok, Some, None, Ok, Err, Decides, Result, sym, refl, ap, ◌∙◌, subst, arith, Bor}
 use Rattle.std.proofs.lemmas.List.{map-append, take_more}
 use Rattle.std.proofs.lemmas.Bool.{ltb-true}
-use Rattle.quantity.specs.Refusals.{Told, plain, told}
+use Rattle.quantity.specs.Refusals.{Told, plain}
 use Rattle.quantity.specs.declared.refusal.Refusal.{Refusal}
 use Rattle.pile.specs.Piles.{Pile}
 use Rattle.coupon.specs.Verdicts.{admitted, refusal_of}
@@ -15,11 +15,11 @@ use Rattle.account.specs.declared.phase.Phase.{Phase}
 use Rattle.account.specs.declared.phase.Phase.TheVariants.{Empty, Accruing, Closed, Paid}
 use Rattle.account.specs.declared.phase.Kind.TheVariants.{Accrue, Open, Read}
 use Rattle.account.specs.Accounts.{lines_in, standing_of, tally_of, terms_of}
-use Rattle.account.specs.Histories.{Done, Follows, Opened, Performed, Reached, Stated, Through}
-use Rattle.account.specs.Phases.{allows, fits, moved, phase_after}
+use Rattle.account.specs.Histories.{Done, Follows, Opened, Reached, Through}
+use Rattle.account.specs.Phases.{allows, fits, moved}
 use Rattle.account.specs.Reconciliations.{Reconciled, Replayed, is_none, judge_reconciling, meanings, passes}
 use Rattle.account.specs.Replies.{accrue_answer}
-use Rattle.account.specs.Tally.{Call, Tally, accrue, accrued, advance, answer_by, answering, begun, givers, judge, outcome, tally_from}
+use Rattle.account.specs.Tally.{Call, Tally, accrue, accrued, advance, answer_by, answering, begun, givers, judge, tally_from}
 use Rattle.account.proofs.States.{follows_push, known, known_after, reached_none, states}
 
 -- the next pile of a slice

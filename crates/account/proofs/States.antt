@@ -2,7 +2,7 @@
 -- Assumes nothing.
 use Rattle.std.proofs.Common.{◌≡◌, ◌≤◌, List, [], ◌∷◌, ◌++◌, sym, refl, ap, ◌∙◌, subst}
 use Rattle.coupon.specs.Lines.{days_of, lines_of, weight_of}
-use Rattle.coupon.specs.Sound.{AddUp, Sound}
+use Rattle.coupon.specs.Sound.{AddUp}
 use Rattle.coupon.proofs.Sound.{add_up, sound_of}
 use Rattle.coupon.specs.declared.day.Day.{Day}
 use Rattle.coupon.specs.declared.terms.Terms.{Terms}

@@ -1,6 +1,6 @@
 -- An issuer's account held against a holder's.
 -- Assumes nothing.
-use Rattle.std.specs.Prelude.{◌≡◌, Bool, true, false, cond, ◌&&◌, List, [], ◌∷◌, map, Some, None, Ok, Err, Decides, Option, Result, MatchResult}
+use Rattle.std.specs.Prelude.{◌≡◌, Bool, true, false, cond, ◌&&◌, List, [], ◌∷◌, map, Some, None, Decides, Option, Result, MatchResult}
 use Rattle.std.specs.Borrow.{Bor}
 use Rattle.quantity.specs.Refusals.{Told, plain, told}
 use Rattle.quantity.specs.declared.refusal.Refusal.{Refusal}

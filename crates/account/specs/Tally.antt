@@ -1,6 +1,6 @@
 -- The tally of an account's calls: a phase and the standing days. It is fed the terms, then each call's arguments.
 -- Assumes nothing.
-use Rattle.std.specs.Prelude.{ℕ, Bool, true, false, cond, ◌&&◌, List, [], ◌∷◌, ◌++◌, map, length, ℤ, Some, None, Ok, Err, Option, Result, ◌==◌, nat_le}
+use Rattle.std.specs.Prelude.{Bool, false, cond, ◌&&◌, List, [], ◌∷◌, ◌++◌, map, length, ℤ, Some, None, Ok, Err, Option, Result, ◌==◌, nat_le}
 use Rattle.quantity.specs.Refusals.{Told, plain}
 use Rattle.quantity.specs.declared.fault.Fault.{Fault}
 use Rattle.quantity.specs.declared.position.Position.{Position}

@@ -47,7 +47,7 @@ impl Account {
 
     // Adds the line of the pile's next day.
     pub fn accrue<P: Observations>(&mut self, pile: &P) -> Result<(), Refusal>
-        ensures { Done (accrue (meaning pile.now)) self.old self.new (accrue_answer result) }
+        ensures { Done (accrue (P.meaning pile.now)) self.old self.new (accrue_answer result) }
     {
         let phase = transition(self.phase, Kind::Accrue)?;
         self.lines.accrue(pile)?;
@@ -67,7 +67,7 @@ impl Account {
 
     // The first position where the pile differs from the lines or faults, or else the number of lines.
     pub fn check<P: Observations>(&self, pile: &P) -> Result<Position, Refusal>
-        ensures { Done (check (meaning pile.now)) self.now self.now (check_answer result) }
+        ensures { Done (check (P.meaning pile.now)) self.now self.now (check_answer result) }
     {
         let _ = transition(self.phase, Kind::Check)?;
         self.lines.check(pile)

@@ -10,7 +10,7 @@ impl Account {
     // Makes a call. Whatever calls the account has had since it was opened, each over a pile of any type, what is stated of
     // every history holds with this one as the last.
     pub fn perform<P: Observations>(&mut self, request: Request<'_, P>) -> Reply
-        ensures { Done (call_of meaning request.entry) self.old self.new (answer_of result) }
+        ensures { Done (call_of P.meaning request.entry) self.old self.new (answer_of result) }
     {
         match request {
             Request::Accrue(pile) => match self.accrue(pile) {

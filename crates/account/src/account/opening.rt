@@ -16,8 +16,8 @@ use quantity::refusal::Refusal;
 
 // The pile's day at a position of its period.
 fn day_of<P: Observations>(pile: &P, i: u32) -> Date
-    requires { i ≤ (meaning pile.now).n }
-    ensures { (meaning pile.now).day (pos i) ≡ Ok result }
+    requires { i ≤ (P.meaning pile.now).n }
+    ensures { (P.meaning pile.now).day (pos i) ≡ Ok result }
 {
     match pile.day(Position::new(i as i32)) {
         Ok(day) => day,
@@ -37,7 +37,7 @@ impl Account {
 
     // Opens an empty or paid account for the pile's period.
     pub fn open<P: Observations>(&mut self, pile: &P, offer: Offer) -> Result<(), Refusal>
-        ensures { Opening (meaning pile.now) offer self.old self.new result }
+        ensures { Opening (P.meaning pile.now) offer self.old self.new result }
     {
         let amount = CalculationAmount::new(offer.amount)?;
         let margin = Margin::new(offer.margin)?;

@@ -14,7 +14,7 @@ use quantity::refusal::Refusal;
 impl Account {
     // Accrues over the piles in their order, and says whether each accrual went through.
     fn replay<P: Observations>(&mut self, piles: &[&P]) -> bool
-        ensures { Replayed (meanings meaning piles.now) self.old self.new result }
+        ensures { Replayed (meanings P.meaning piles.now) self.old self.new result }
     {
         let mut all = true;
         for pile in piles {
@@ -33,7 +33,7 @@ pub fn reconcile<P: Observations>(
     holder: &mut Account,
     piles: &[&P],
 ) -> Result<bool, Refusal>
-    ensures { Reconciling (meanings meaning piles.now) issuer.now holder.old holder.new result }
+    ensures { Reconciling (meanings P.meaning piles.now) issuer.now holder.old holder.new result }
 {
     let _ = transition(issuer.phase, Kind::Read)?;
     let _ = transition(holder.phase, Kind::Open)?;

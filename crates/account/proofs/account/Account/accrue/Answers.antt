@@ -14,7 +14,7 @@ returns-in_err-phase g c =
 pub invariant_of-self : goal.invariant_of-self
 invariant_of-self g c =
     let h = c.in_err-accrue.ensures in
-    (accrue_kept c.args.self.now (g.P.Observations.meaning c.args.pile.now) c.in_ok-phase.phase c.accrue.new.self c.in_ok-phase.ensures h.took _ h.judged, tt)
+    record { fitting = accrue_kept c.args.self.now (g.P.Observations.meaning c.args.pile.now) c.in_ok-phase.phase c.accrue.new.self c.in_ok-phase.ensures h.took _ h.judged }
 
 pub returns-in_err-accrue : goal.returns-in_err-accrue
 returns-in_err-accrue g c =
@@ -25,7 +25,7 @@ returns-in_err-accrue g c =
 pub invariant_of-self-2 : goal.invariant_of-self-2
 invariant_of-self-2 g c =
     let h = c.in_ok-accrue.ensures in
-    (accrue_fits c.args.self.now (g.P.Observations.meaning c.args.pile.now) c.in_ok-phase.phase c.accrue.new.self c.in_ok-phase.ensures h.took h.judged, tt)
+    record { fitting = accrue_fits c.args.self.now (g.P.Observations.meaning c.args.pile.now) c.in_ok-phase.phase c.accrue.new.self c.in_ok-phase.ensures h.took h.judged }
 
 pub returns : goal.returns
 returns g c =

@@ -1,4 +1,4 @@
-use Rattle.std.proofs.Common.{Err, sym, refl, ap, ◌∙◌, arith}
+use Rattle.std.proofs.Common.{Err, refl, ap, ◌∙◌, arith}
 use Rattle.quantity.specs.Refusals.{told}
 use Rattle.std.proofs.lemmas.Result.{err_from_is_err_and}
 use Rattle.coupon.specs.declared.terms.Terms.{Terms}
@@ -30,7 +30,7 @@ pub invariant_of-self : goal.invariant_of-self
 invariant_of-self c =
     let a = c.args.self.now in
     let days = ap (λ (t : Terms). t.n) c.terms.ensures in
-    (close_fits a c.in_ok-phase.phase c.in_ok-phase.ensures (omega (arith, c.count.ensures.value, days, c.if-count-terms.false)), tt)
+    record { fitting = close_fits a c.in_ok-phase.phase c.in_ok-phase.ensures (omega (arith, c.count.ensures.value, days, c.if-count-terms.false)) }
 
 pub returns : goal.returns
 returns c =

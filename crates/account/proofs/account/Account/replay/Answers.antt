@@ -1,4 +1,4 @@
-use Rattle.std.proofs.Common.{◌≡◌, ◌&&◌, List, take, sym, ap, ◌∙◌, subst}
+use Rattle.std.proofs.Common.{◌&&◌, List, take, sym, ap, subst}
 use Rattle.std.proofs.lemmas.List.{take_all}
 use Rattle.pile.specs.Piles.{Pile}
 use Rattle.account.specs.Reconciliations.{Replayed, meanings}

@@ -1,6 +1,6 @@
-use Rattle.std.proofs.Common.{◌≡◌, List, [], ◌∷◌, ℤ, pos, subst}
+use Rattle.std.proofs.Common.{[], ◌∷◌, ℤ, pos, subst}
 use Rattle.account.specs.Histories.{Reached}
-use Rattle.account.specs.Tally.{Call, accrue, check, wind_back}
+use Rattle.account.specs.Tally.{accrue, check, wind_back}
 use Rattle.account.proofs.account.reconciliation.accrue_anew.Goals as goal
 
 pub returns : goal.returns
