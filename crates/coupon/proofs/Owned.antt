@@ -1,12 +1,12 @@
 -- What the lines of a coupon say is what the rules give for the days that they bear.
 -- Assumes nothing.
-use Rattle.std.proofs.Common.{◌≡◌, ◌≤◌, true, ◌&&◌, List, length, None, vec_len, sym, refl, ap, ◌∙◌, arith}
+use Rattle.std.proofs.Common.{◌≡◌, ◌≤◌, true, ◌&&◌, List, length, None, vec_len, sym, ap, ◌∙◌, arith}
 use Rattle.std.proofs.lemmas.List.{length-map}
 use Rattle.std.proofs.lemmas.Bool.{and_from}
 use Rattle.rules.specs.Reach.{is_in_reach}
 use Rattle.rules.specs.declared.bounds.Bounds.{Bounds}
 use Rattle.rules.specs.Chosen.{chosen_factor, chosen_bounds}
-use Rattle.rules.specs.Laws.{chosen_keeps}
+use Rattle.rules.proofs.Laws.{chosen_keeps}
 use Rattle.rules.proofs.Prefix.{tests_in_reach}
 use Rattle.rules.specs.Runs.{encloses_of, narrow_of, moderate_of}
 use Rattle.coupon.specs.declared.day.Day.{Day}
@@ -43,7 +43,7 @@ row_in_reach t ds few =
     let base = year_base t in
     let grown = chosen_factor t.rule base in
     let widened = chosen_bounds t.rule base in
-    let keeps = chosen_keeps t.rule base (λ k x o. refl) (λ k x o. refl) in
+    let keeps = chosen_keeps t.rule base in
     tests_in_reach base (seen ds) _ _ few (encloses_of base grown widened keeps (seen ds) few) (narrow_of base grown widened keeps (seen ds) few) (moderate_of base grown widened keeps (seen ds) few)
 
 pub bounds_in_reach : (t : Terms) (ds : List Day) (b : Bounds) → weight_of ds ≤ 400 → b ≡ bounds_at t ds → (is_in_reach b.lo && is_in_reach b.hi) ≡ true

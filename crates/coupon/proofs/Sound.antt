@@ -9,7 +9,7 @@ use Rattle.rules.specs.Accrual.{Encloses, Narrow}
 use Rattle.rules.specs.Chosen.{chosen_factor, chosen_bounds}
 use Rattle.rules.specs.Reach.{unit}
 use Rattle.rules.proofs.Exact.{settled_exact, exact_or_next}
-use Rattle.rules.specs.Laws.{chosen_keeps}
+use Rattle.rules.proofs.Laws.{chosen_keeps}
 use Rattle.rules.specs.Runs.{encloses_of, narrow_of}
 use Rattle.coupon.specs.declared.day.Day.{Day}
 use Rattle.coupon.specs.declared.line.Line.{Line}
@@ -20,10 +20,10 @@ use Rattle.coupon.proofs.Rows.{bounds_is, cumulative_is, cumulative_pushed, line
 
 -- the rule's laws of a row of days
 row_encloses : (t : Terms) (ds : List Day) → weight_of ds ≤ 400 → Encloses (year_base t) (seen ds) (factor_at t ds) (bounds_at t ds)
-row_encloses t ds few = encloses_of (year_base t) (chosen_factor t.rule (year_base t)) (chosen_bounds t.rule (year_base t)) (chosen_keeps t.rule (year_base t) (λ k x o. refl) (λ k x o. refl)) (seen ds) few
+row_encloses t ds few = encloses_of (year_base t) (chosen_factor t.rule (year_base t)) (chosen_bounds t.rule (year_base t)) (chosen_keeps t.rule (year_base t)) (seen ds) few
 
 row_narrow : (t : Terms) (ds : List Day) → weight_of ds ≤ 400 → Narrow (seen ds) (bounds_at t ds)
-row_narrow t ds few = narrow_of (year_base t) (chosen_factor t.rule (year_base t)) (chosen_bounds t.rule (year_base t)) (chosen_keeps t.rule (year_base t) (λ k x o. refl) (λ k x o. refl)) (seen ds) few
+row_narrow t ds few = narrow_of (year_base t) (chosen_factor t.rule (year_base t)) (chosen_bounds t.rule (year_base t)) (chosen_keeps t.rule (year_base t)) (seen ds) few
 
 enclosed : (t : Terms) (ds : List Day) (ls : List Line) (k : ℕ) → ls ≡ lines_of t ds → weight_of ds ≤ 400 → k ≤ length ds → Enclosed t ls ds k
 enclosed t ds ls k h light w =

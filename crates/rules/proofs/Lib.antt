@@ -3,3 +3,4 @@ pub mod Nearest
 pub mod Exact
 pub mod Prefix
 pub mod Accrued
+pub mod Laws

@@ -21,14 +21,14 @@ GrowsCompounded base grown = (k : ℕ) (x : ℤ) (o : Observation) → grown k x
 abbrev pub GrowsSimple : YearBase → (ℕ → ℤ → Observation → ℤ) → Type 0
 GrowsSimple base grown = (k : ℕ) (x : ℤ) (o : Observation) → grown k x o ≡ (x *ℤ pos (scale base)) +ℤ (gain o *ℤ pos (scale base ^ k))
 
-pub compounded_keeps : (base : YearBase) (grown : ℕ → ℤ → Observation → ℤ) → GrowsCompounded base grown → Keeps base grown (compounded_bounds base)
-compounded_keeps base grown grows k W factor b o few s =
+pub keeps_compounded : (base : YearBase) (grown : ℕ → ℤ → Observation → ℤ) → GrowsCompounded base grown → Keeps base grown (compounded_bounds base)
+keeps_compounded base grown grows k W factor b o few s =
     rw (grows k factor o) (compounded_step (scale base) (scale base ^ k) k W factor b.lo b.hi o (omega (arith, scale_least base)) few s)
 
-pub simple_keeps : (base : YearBase) (grown : ℕ → ℤ → Observation → ℤ) → GrowsSimple base grown → Keeps base grown (simple_bounds base)
-simple_keeps base grown grows k W factor b o few s =
+pub keeps_simple : (base : YearBase) (grown : ℕ → ℤ → Observation → ℤ) → GrowsSimple base grown → Keeps base grown (simple_bounds base)
+keeps_simple base grown grows k W factor b o few s =
     rw (grows k factor o) (simple_step (scale base) (scale base ^ k) k W factor b.lo b.hi o (omega (arith, scale_least base)) few s)
 
-pub chosen_keeps : (r : Rule) (base : YearBase) → GrowsCompounded base (chosen_factor Compounded base) → GrowsSimple base (chosen_factor Simple base) → Keeps base (chosen_factor r base) (chosen_bounds r base)
-chosen_keeps Compounded base compounded simple = compounded_keeps base (chosen_factor Compounded base) compounded
-chosen_keeps Simple base compounded simple = simple_keeps base (chosen_factor Simple base) simple
+pub keeps_chosen : (r : Rule) (base : YearBase) → GrowsCompounded base (chosen_factor Compounded base) → GrowsSimple base (chosen_factor Simple base) → Keeps base (chosen_factor r base) (chosen_bounds r base)
+keeps_chosen Compounded base compounded simple = keeps_compounded base (chosen_factor Compounded base) compounded
+keeps_chosen Simple base compounded simple = keeps_simple base (chosen_factor Simple base) simple

@@ -7,7 +7,7 @@ ghost use Rattle.rules.specs.Accrual.{weight_of, factor_of, bounds_of, Encloses,
 ghost use Rattle.rules.specs.Chosen.{chosen_factor, chosen_bounds};
 ghost use Rattle.rules.specs.declared.bounds.Bounds.{Bounds as Pair};
 ghost use Rattle.rules.specs.declared.observation.Observation.{Observation as Observed};
-ghost use Rattle.rules.specs.Laws.{compounded_keeps, simple_keeps, chosen_keeps};
+ghost use Rattle.rules.specs.Laws.{keeps_compounded, keeps_simple, keeps_chosen};
 ghost use Rattle.rules.specs.Runs.{encloses_of, narrow_of, moderate_of};
 
 use crate::bounds::{Bounds, ModerateBounds, UNIT};
@@ -71,11 +71,11 @@ impl AccrualRule for Compounded {
 
     ghost widened = { λ _. compounded_bounds };
 
-    ghost encloses = { λ rule base os few. encloses_of base (compounded_factor base) (compounded_bounds base) (compounded_keeps base (compounded_factor base) (λ k x o. refl)) os few };
+    ghost encloses = { λ rule base os few. encloses_of base (compounded_factor base) (compounded_bounds base) (keeps_compounded base (compounded_factor base) (λ k x o. refl)) os few };
 
-    ghost narrow = { λ rule base os few. narrow_of base (compounded_factor base) (compounded_bounds base) (compounded_keeps base (compounded_factor base) (λ k x o. refl)) os few };
+    ghost narrow = { λ rule base os few. narrow_of base (compounded_factor base) (compounded_bounds base) (keeps_compounded base (compounded_factor base) (λ k x o. refl)) os few };
 
-    ghost moderate = { λ rule base os few. moderate_of base (compounded_factor base) (compounded_bounds base) (compounded_keeps base (compounded_factor base) (λ k x o. refl)) os few };
+    ghost moderate = { λ rule base os few. moderate_of base (compounded_factor base) (compounded_bounds base) (keeps_compounded base (compounded_factor base) (λ k x o. refl)) os few };
 
     fn step(
         &self,
@@ -103,11 +103,11 @@ impl AccrualRule for Simple {
 
     ghost widened = { λ _. simple_bounds };
 
-    ghost encloses = { λ rule base os few. encloses_of base (simple_factor base) (simple_bounds base) (simple_keeps base (simple_factor base) (λ k x o. refl)) os few };
+    ghost encloses = { λ rule base os few. encloses_of base (simple_factor base) (simple_bounds base) (keeps_simple base (simple_factor base) (λ k x o. refl)) os few };
 
-    ghost narrow = { λ rule base os few. narrow_of base (simple_factor base) (simple_bounds base) (simple_keeps base (simple_factor base) (λ k x o. refl)) os few };
+    ghost narrow = { λ rule base os few. narrow_of base (simple_factor base) (simple_bounds base) (keeps_simple base (simple_factor base) (λ k x o. refl)) os few };
 
-    ghost moderate = { λ rule base os few. moderate_of base (simple_factor base) (simple_bounds base) (simple_keeps base (simple_factor base) (λ k x o. refl)) os few };
+    ghost moderate = { λ rule base os few. moderate_of base (simple_factor base) (simple_bounds base) (keeps_simple base (simple_factor base) (λ k x o. refl)) os few };
 
     fn step(
         &self,
@@ -138,11 +138,11 @@ impl AccrualRule for Rule {
 
     ghost widened = { chosen_bounds };
 
-    ghost encloses = { λ rule base os few. encloses_of base (chosen_factor rule base) (chosen_bounds rule base) (chosen_keeps rule base (λ k x o. refl) (λ k x o. refl)) os few };
+    ghost encloses = { λ rule base os few. encloses_of base (chosen_factor rule base) (chosen_bounds rule base) (keeps_chosen rule base (λ k x o. refl) (λ k x o. refl)) os few };
 
-    ghost narrow = { λ rule base os few. narrow_of base (chosen_factor rule base) (chosen_bounds rule base) (chosen_keeps rule base (λ k x o. refl) (λ k x o. refl)) os few };
+    ghost narrow = { λ rule base os few. narrow_of base (chosen_factor rule base) (chosen_bounds rule base) (keeps_chosen rule base (λ k x o. refl) (λ k x o. refl)) os few };
 
-    ghost moderate = { λ rule base os few. moderate_of base (chosen_factor rule base) (chosen_bounds rule base) (chosen_keeps rule base (λ k x o. refl) (λ k x o. refl)) os few };
+    ghost moderate = { λ rule base os few. moderate_of base (chosen_factor rule base) (chosen_bounds rule base) (keeps_chosen rule base (λ k x o. refl) (λ k x o. refl)) os few };
 
     fn step(
         &self,
