@@ -7,7 +7,7 @@ use Rattle.quantity.specs.declared.year.YearBase.{YearBase}
 use Rattle.rules.specs.declared.bounds.Bounds.{Bounds}
 use Rattle.rules.specs.declared.observation.Observation.{Observation}
 use Rattle.rules.specs.Accrual.{at_one, bounds_of, factor_of}
-use Rattle.rules.specs.Accrual.{weight_of as observedWeight}
+use Rattle.rules.specs.Accrual.{weight_of as weight_seen}
 use Rattle.rules.specs.Chosen.{chosen_factor, chosen_bounds}
 use Rattle.rules.specs.Rate.{rate_of, exact_rate_of, same, amount_of}
 use Rattle.rules.specs.Rounding.{Fraction}
@@ -32,7 +32,7 @@ seen ds = map observation_of ds
 
 -- W, the sum of the weights
 abbrev pub weight_of : List Day → ℕ
-weight_of ds = observedWeight (seen ds)
+weight_of ds = weight_seen (seen ds)
 
 -- the year base of the benchmark
 abbrev pub year_base : Terms → YearBase

@@ -1,13 +1,13 @@
 // Faults, and how they pass up through layers.
 ghost use Rattle.std.specs.Prelude.{◌≡◌};
-ghost use Rattle.pile.specs.Faults.{lifted, outside as outsideOf, raised as raisedOf};
+ghost use Rattle.pile.specs.Faults.{lifted, outside, raised};
 
 use quantity::fault::{Cause, Fault};
 use quantity::position::Position;
 
 // The fault of a position that the pile asked does not have.
 pub fn outside(at: Position) -> Fault
-    ensures { result ≡ outsideOf at.value }
+    ensures { result ≡ outside at.value }
 {
     Fault {
         cause: Cause::Outside,
@@ -18,7 +18,7 @@ pub fn outside(at: Position) -> Fault
 
 // The same fault, seen from one layer above.
 pub fn raised(fault: Fault) -> Fault
-    ensures { result ≡ raisedOf fault }
+    ensures { result ≡ raised fault }
 {
     Fault {
         cause: fault.cause,

@@ -3,7 +3,7 @@ ghost use Rattle.std.specs.Prelude.{◌≡◌, ◌<◌, true, pos, negsuc, ◌+�
 ghost use Rattle.quantity.specs.Benchmarks.{days_in};
 ghost use Rattle.rules.specs.Reach.{is_in_reach, unit};
 ghost use Rattle.rules.specs.Rounding.{IsNearest};
-ghost use Rattle.rules.specs.Rate.{rate_of, interest as interestOf, amount_of, Reports, SmallAmount};
+ghost use Rattle.rules.specs.Rate.{rate_of, interest, amount_of, Reports, SmallAmount};
 
 use crate::bounds::{Bounds, ModerateBounds, UNIT};
 use crate::rounding::nearest_div;
@@ -94,7 +94,7 @@ pub fn amount(
     days: DayCount,
 ) -> i64
     ensures value { result ≡ amount_of base principal.cents rate.places margin.places days.days }
-    ensures nearest { IsNearest (interestOf base principal.cents rate.places margin.places days.days) result }
+    ensures nearest { IsNearest (interest base principal.cents rate.places margin.places days.days) result }
     ensures small { SmallAmount result }
 {
     let due = interest(principal, all_in_rate(rate, margin), days);
