@@ -1,6 +1,6 @@
 // Dates by year, month and day.
-ghost use Rattle.std.specs.Prelude.{◌≡◌, ◌+◌, ◌≤◌, cond};
-ghost use Rattle.calendar.specs.Civil.{is_leap, is_weekend, new_year, days_before, day_of, InYear};
+ghost use Rattle.std.specs.Prelude.{◌≡◌, ◌+◌, ◌≤◌};
+ghost use Rattle.calendar.specs.Civil.{is_leap, is_weekend, new_year, days_before, day_of};
 
 use crate::month::Month;
 use crate::year::{FIRST_YEAR, Year};

@@ -7,7 +7,6 @@ use crate::request::{Layers, Request, arranged, request_in};
 use anyhow::anyhow;
 use calendar::holidays::HolidayList;
 use fixings::file::FixingFile;
-use fixings::source::Source;
 use pile::direct::Direct;
 use pile::floor::Floor;
 use pile::lag::Lag;

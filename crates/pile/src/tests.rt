@@ -4,13 +4,13 @@ use crate::lag::Lag;
 use crate::observations::Observations;
 use calendar::holidays::HolidayList;
 use calendar::target::Target;
-use fixings::source::{Projection, Source};
+use fixings::source::Projection;
 use quantity::date::Date;
 use quantity::position::{Offset, Position};
 use quantity::refusal::Refusal;
 use schedule::schedule::Schedule;
 use std::process::Abort;
-use std::test::*;
+use std::test::Fail;
 
 fn made<T: Drop>(made: Result<T, Refusal>) -> Result<T, Fail> {
     match made {

@@ -1,5 +1,5 @@
 // The benchmarks, each with its year base and the step of its published rate.
-ghost use Rattle.std.specs.Prelude.{◌≡◌, ℕ, ◌<◌, true, false, ◌⊎◌, pos, negsuc, ◌<ℤ◌, Some, None, MatchResult};
+ghost use Rattle.std.specs.Prelude.{◌≡◌, ◌<◌, true, false, ◌⊎◌, pos, negsuc, ◌<ℤ◌, Some, None, MatchResult};
 ghost use Rattle.quantity.specs.Benchmarks.{base_of, code_number, code_of, is_on_step, step_of};
 ghost use Rattle.quantity.specs.Refusals.{told, plain};
 ghost use Rattle.quantity.specs.declared.benchmark.BenchmarkCode.{BenchmarkCode as Named};

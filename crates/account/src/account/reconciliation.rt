@@ -1,6 +1,5 @@
 // An issuer's account held against a holder's, and a coupon accrued anew over a restated pile.
 ghost use Rattle.std.specs.Prelude.{◌≡◌, [], ◌∷◌, pos};
-ghost use Rattle.account.specs.Accounts.{tally_of, terms_of};
 ghost use Rattle.account.specs.Reconciliations.{Anew, Reconciling, Replayed, meanings};
 ghost use Rattle.account.specs.Tally.{accrue, check, wind_back};
 

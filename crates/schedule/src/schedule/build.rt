@@ -1,4 +1,4 @@
-ghost use Rattle.std.specs.Prelude.{◌≡◌, ℕ, ◌+◌, ◌-◌, ◌<◌, ◌≤◌, true, false, MatchOption, MatchResult, OnOk};
+ghost use Rattle.std.specs.Prelude.{◌≡◌, ◌+◌, ◌-◌, ◌<◌, ◌≤◌, true, MatchOption, MatchResult, OnOk};
 ghost use Rattle.schedule.specs.Meaning.{Same, Scheduled};
 ghost use Rattle.quantity.specs.Refusals.{told};
 ghost use Rattle.schedule.specs.Refusals.{Refused};
