@@ -1,6 +1,7 @@
 -- Benchmarks: code, year base, and the step of the published rate.
 -- Assumes nothing.
-use Rattle.std.specs.Prelude.{ℕ, ◌*◌, ◌%◌, ◌^◌, Bool, cond, ℤ, Some, None, Option, ◌==◌, unsigned_abs}
+use Rattle.std.specs.Prelude.{◌≡◌, ◌≢◌, List, codes, Result, MatchResult, ℕ, ◌*◌, ◌%◌, ◌^◌, Bool, cond, ℤ, Some, None, Option, ◌==◌, unsigned_abs}
+use Rattle.quantity.specs.declared.benchmark.UnknownBenchmark.{UnknownBenchmark}
 use Rattle.quantity.specs.declared.benchmark.BenchmarkCode.{BenchmarkCode}
 use Rattle.quantity.specs.declared.benchmark.BenchmarkCode.TheVariants.{Sofr, Sonia, Estr}
 use Rattle.quantity.specs.declared.year.YearBase.{YearBase}
@@ -15,6 +16,16 @@ code_number Estr = 3
 -- the benchmark of a number, or none
 abbrev pub code_of : ℕ → Option BenchmarkCode
 code_of n = cond (n == 1) (Some Sofr) (cond (n == 2) (Some Sonia) (cond (n == 3) (Some Estr) None))
+
+-- the word for a benchmark
+abbrev pub word_of : BenchmarkCode → List ℕ
+word_of Sofr = codes "SOFR"
+word_of Sonia = codes "SONIA"
+word_of Estr = codes "ESTR"
+
+-- the answer is the benchmark that has a word, or that none has it
+abbrev pub IsNamed : List ℕ → Result BenchmarkCode UnknownBenchmark → Type 0
+IsNamed word answer = MatchResult answer (λ b. word ≡ word_of b) (λ _. (b : BenchmarkCode) → word ≢ word_of b)
 
 -- N, the days of a year base
 abbrev pub days_in : YearBase → ℕ

@@ -4,7 +4,8 @@ ghost use Rattle.quantity.specs.Refusals.{told, plain};
 use crate::refusal::Refusal;
 
 // The amount in cents that interest is calculated on, from 1 to 1,000,000,000.
-#[derive(Clone, Copy)]
+// A type apart from the other bounded numbers, so that contracts name the unit.
+#[derive(Clone, Copy, Debug, PartialEq, Eq, PartialOrd, Ord)]
 pub struct CalculationAmount {
     cents: u32,
     ghost least: { 1 ≤ cents },
@@ -16,7 +17,7 @@ impl CalculationAmount {
     pub fn new(cents: u32) -> Result<CalculationAmount, Refusal>
         ensures { MatchResult result (λ a. a.cents ≡ cents) (λ e. ((cents < 1) ⊎ (1000000000 < cents)) × (told e ≡ plain 10)) }
     {
-        if cents < 1 || cents > 1_000_000_000 {
+        if !(1..=1_000_000_000).contains(&cents) {
             return Err(Refusal::OutOfLimits);
         }
         Ok(CalculationAmount { cents })

@@ -1,111 +1,118 @@
 // The benchmarks, each with its year base and the step of its published rate.
-ghost use Rattle.std.specs.Prelude.{◌≡◌, ◌<◌, true, false, ◌⊎◌, pos, negsuc, ◌<ℤ◌, Some, None, MatchResult};
-ghost use Rattle.quantity.specs.Benchmarks.{base_of, code_number, code_of, is_on_step, step_of};
+ghost use Rattle.std.specs.Prelude.{◌≡◌, ℕ, refl, codes, ◌<◌, true, false, ◌⊎◌, pos, negsuc, ◌<ℤ◌, Some, None, MatchResult};
+ghost use Rattle.quantity.specs.Benchmarks.{IsNamed, base_of, code_number, code_of, is_on_step, step_of};
 ghost use Rattle.quantity.specs.Refusals.{told, plain};
 ghost use Rattle.quantity.specs.declared.benchmark.BenchmarkCode.{BenchmarkCode as Named};
+ghost use Rattle.quantity.specs.declared.year.YearBase.{YearBase as Year};
+ghost use Rattle.quantity.specs.declared.year.YearBase.TheVariants.{Days360, Days365};
 
 use crate::rate::Rate;
 use crate::refusal::Refusal;
 use crate::year::YearBase;
+use std::error::Error;
+use std::fmt;
+use std::str::FromStr;
 
-// A benchmark as files and terms name it.
-#[derive(Clone, Copy)]
+// A benchmark as files and terms name it: an enum, which terms can copy and compare, and no `dyn`.
+#[derive(Clone, Copy, Debug, PartialEq, Eq)]
 pub enum BenchmarkCode {
     Sofr,
     Sonia,
     Estr,
 }
 
-// A benchmark by its constants. A clause cannot name a trait's constants, so methods hand them out and are held to the benchmark's code.
+// A benchmark by its constants: the days of the year, and the ticks that each published rate is a multiple of. Each impl gives a
+// constant twice, since a ghost member that holds data has no default.
 pub trait Benchmark {
-    // The days of the year.
-    const BASE: YearBase;
-
-    // The ticks that each published rate is a multiple of.
-    const STEP: u32;
-
     ghost named: { Named };
 
+    ghost BASE: { Year };
+
+    const BASE: YearBase;
+
+    ghost STEP: { ℕ };
+
+    const STEP: u32;
+
     fn year_base() -> YearBase
-        ensures { result ≡ base_of named };
+        ensures { result ≡ base_of named }
+    {
+        Self::BASE
+    }
 
     fn rate_step() -> u32
-        ensures { result ≡ step_of named };
+        ensures { result ≡ step_of named }
+    {
+        Self::STEP
+    }
+
+    ghost based: { BASE ≡ base_of named };
+
+    ghost stepped: { STEP ≡ step_of named };
 }
 
 // The dollar rate of the New York Fed.
-#[derive(Clone, Copy)]
+#[derive(Clone, Copy, Debug, PartialEq, Eq)]
 pub struct Sofr;
 
 // The sterling rate of the Bank of England.
-#[derive(Clone, Copy)]
+#[derive(Clone, Copy, Debug, PartialEq, Eq)]
 pub struct Sonia;
 
 // The euro rate of the European Central Bank, €STR.
-#[derive(Clone, Copy)]
+#[derive(Clone, Copy, Debug, PartialEq, Eq)]
 pub struct Estr;
 
 impl Benchmark for Sofr {
+    ghost named = { Named.Sofr };
+
+    ghost BASE = { Days360 };
+
     const BASE: YearBase = YearBase::Days360;
+
+    ghost STEP = { 100 };
 
     const STEP: u32 = 100;
 
-    ghost named = { Named.Sofr };
+    ghost based = { refl };
 
-    fn year_base() -> YearBase {
-        Self::BASE
-    }
-
-    fn rate_step() -> u32 {
-        Self::STEP
-    }
+    ghost stepped = { refl };
 }
 
 impl Benchmark for Sonia {
+    ghost named = { Named.Sonia };
+
+    ghost BASE = { Days365 };
+
     const BASE: YearBase = YearBase::Days365;
+
+    ghost STEP = { 1 };
 
     const STEP: u32 = 1;
 
-    ghost named = { Named.Sonia };
+    ghost based = { refl };
 
-    fn year_base() -> YearBase {
-        Self::BASE
-    }
-
-    fn rate_step() -> u32 {
-        Self::STEP
-    }
+    ghost stepped = { refl };
 }
 
 impl Benchmark for Estr {
+    ghost named = { Named.Estr };
+
+    ghost BASE = { Days360 };
+
     const BASE: YearBase = YearBase::Days360;
+
+    ghost STEP = { 10 };
 
     const STEP: u32 = 10;
 
-    ghost named = { Named.Estr };
+    ghost based = { refl };
 
-    fn year_base() -> YearBase {
-        Self::BASE
-    }
-
-    fn rate_step() -> u32 {
-        Self::STEP
-    }
+    ghost stepped = { refl };
 }
 
 impl BenchmarkCode {
-    // The benchmark of a number, or refusal 2 where there is none.
-    pub fn new(number: u8) -> Result<BenchmarkCode, Refusal>
-        ensures { MatchResult result (λ b. (code_of number ≡ Some b) × (code_number b ≡ number)) (λ e. (code_of number ≡ None) × (told e ≡ plain 2)) }
-    {
-        match number {
-            1 => Ok(BenchmarkCode::Sofr),
-            2 => Ok(BenchmarkCode::Sonia),
-            3 => Ok(BenchmarkCode::Estr),
-            _ => Err(Refusal::OutOfRange),
-        }
-    }
-
+    // The number that stands for it in files, and nowhere else.
     pub fn number(self) -> u8
         ensures { result ≡ code_number self }
     {
@@ -153,5 +160,51 @@ impl BenchmarkCode {
             return Err(Refusal::OutOfRange);
         }
         Ok(rate)
+    }
+}
+
+// The benchmark of a number, or refusal 2 where there is none.
+impl TryFrom<u8> for BenchmarkCode {
+    type Error = Refusal;
+
+    ghost try_from_gives = { λ number answer. MatchResult answer (λ b. (code_of number ≡ Some b) × (code_number b ≡ number)) (λ e. (code_of number ≡ None) × (told e ≡ plain 2)) };
+
+    fn try_from(number: u8) -> Result<BenchmarkCode, Refusal> {
+        match number {
+            1 => Ok(BenchmarkCode::Sofr),
+            2 => Ok(BenchmarkCode::Sonia),
+            3 => Ok(BenchmarkCode::Estr),
+            _ => Err(Refusal::OutOfRange),
+        }
+    }
+}
+
+// A word that is no benchmark's.
+#[derive(Clone, Copy, Debug, PartialEq, Eq)]
+pub struct UnknownBenchmark;
+
+impl fmt::Display for UnknownBenchmark {
+    ghost output = { λ _. Some (codes "the benchmark is SOFR, SONIA or ESTR") };
+
+    fn fmt<W: fmt::Write>(&self, f: &mut fmt::Formatter<W>) -> fmt::Result {
+        f.write_str("the benchmark is SOFR, SONIA or ESTR")
+    }
+}
+
+impl Error for UnknownBenchmark {}
+
+// The benchmark of a word.
+impl FromStr for BenchmarkCode {
+    type Err = UnknownBenchmark;
+
+    ghost from_str_gives = { IsNamed };
+
+    fn from_str(word: &str) -> Result<BenchmarkCode, UnknownBenchmark> {
+        match word {
+            "SOFR" => Ok(BenchmarkCode::Sofr),
+            "SONIA" => Ok(BenchmarkCode::Sonia),
+            "ESTR" => Ok(BenchmarkCode::Estr),
+            _ => Err(UnknownBenchmark),
+        }
     }
 }

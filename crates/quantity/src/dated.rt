@@ -16,12 +16,7 @@ pub trait Dated {
 pub fn find<R: Dated>(records: &[R], date: Date) -> Option<usize>
     ensures { FirstAt (map R.Dated.dated records.now) date.number result }
 {
-    for (i, record) in records.iter().enumerate() {
-        if record.date().number() == date.number() {
-            return Some(i);
-        }
-    }
-    None
+    records.iter().position(|record| record.date() == date)
 }
 
 impl Dated for Date {

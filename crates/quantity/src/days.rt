@@ -1,7 +1,7 @@
 ghost use Rattle.std.specs.Prelude.{◌≡◌};
 
-// A number of calendar days.
-#[derive(Clone, Copy)]
+// A number of calendar days. Made and read by name: `From` would let a position or a day number pass for one, as a type shared with `Position` would.
+#[derive(Clone, Copy, Debug, PartialEq, Eq, PartialOrd, Ord)]
 pub struct DayCount {
     days: u32,
 }

@@ -4,7 +4,8 @@ ghost use Rattle.quantity.specs.Refusals.{told, plain};
 use crate::refusal::Refusal;
 
 // A margin over the reported rate, in places of 10^-7, from -1,000,000 to 1,000,000.
-#[derive(Clone, Copy)]
+// A type apart from the other bounded numbers, so that contracts name the unit.
+#[derive(Clone, Copy, Debug, PartialEq, Eq, PartialOrd, Ord)]
 pub struct Margin {
     places: i32,
     ghost least: { negsuc 999999 ≤ℤ places },
@@ -16,7 +17,7 @@ impl Margin {
     pub fn new(places: i32) -> Result<Margin, Refusal>
         ensures { MatchResult result (λ m. m.places ≡ places) (λ e. ((places <ℤ negsuc 999999) ⊎ (pos 1000000 <ℤ places)) × (told e ≡ plain 10)) }
     {
-        if places < -1_000_000 || places > 1_000_000 {
+        if !(-1_000_000..=1_000_000).contains(&places) {
             return Err(Refusal::OutOfLimits);
         }
         Ok(Margin { places })

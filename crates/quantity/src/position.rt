@@ -3,14 +3,15 @@ ghost use Rattle.quantity.specs.Refusals.{told, plain};
 
 use crate::refusal::Refusal;
 
-// A signed count of good days from the period's first day, which is position 0.
-#[derive(Clone, Copy)]
+// A signed count of good days from the period's first day, which is position 0. Made and read by name: `From` would let a count of days pass for one, as a type shared with `DayCount` would.
+#[derive(Clone, Copy, Debug, PartialEq, Eq, PartialOrd, Ord)]
 pub struct Position {
     value: i32,
 }
 
 // A lag, a shift or a lockout: a number of positions, 0 to 20.
-#[derive(Clone, Copy)]
+// A type apart from the other bounded numbers, so that contracts name the unit.
+#[derive(Clone, Copy, Debug, PartialEq, Eq, PartialOrd, Ord)]
 pub struct Offset {
     count: u8,
     ghost few: { count ≤ 20 },

@@ -4,7 +4,8 @@ ghost use Rattle.quantity.specs.Refusals.{told, plain};
 use crate::refusal::Refusal;
 
 // A rate in ticks of 10^-6, from -250,000 to 250,000.
-#[derive(Clone, Copy)]
+// A type apart from the other bounded numbers, so that contracts name the unit.
+#[derive(Clone, Copy, Debug, PartialEq, Eq, PartialOrd, Ord)]
 pub struct Rate {
     ticks: i32,
     ghost least: { negsuc 249999 ≤ℤ ticks },
@@ -16,7 +17,7 @@ impl Rate {
     pub fn new(ticks: i32) -> Result<Rate, Refusal>
         ensures { MatchResult result (λ d. d.ticks ≡ ticks) (λ e. ((ticks <ℤ negsuc 249999) ⊎ (pos 250000 <ℤ ticks)) × (told e ≡ plain 2)) }
     {
-        if ticks < -250_000 || ticks > 250_000 {
+        if !(-250_000..=250_000).contains(&ticks) {
             return Err(Refusal::OutOfRange);
         }
         Ok(Rate { ticks })

@@ -1,11 +1,13 @@
 // Why a call is turned down.
 ghost use Rattle.std.specs.Prelude.{◌≡◌, ◌≤◌};
 ghost use Rattle.quantity.specs.Refusals.{told};
+ghost use Rattle.quantity.specs.declared.refusal.Refusal.TheVariants.{Faulted};
 
 use crate::fault::Fault;
+use std::error::Error;
 use std::fmt;
 
-#[derive(Clone, Copy)]
+#[derive(Clone, Copy, Debug, PartialEq, Eq)]
 pub enum Refusal {
     // the field at an offset is cut short or not due there, or its count is false
     Malformed(usize),
@@ -47,32 +49,8 @@ pub enum Refusal {
     OtherFigures,
 }
 
-// What each number says.
-const REASONS: [&str; 20] = [
-    "a field is cut short, is not due here or has a false count",
-    "a benchmark, date or rate is outside its values, or a rate is off the step",
-    "there are too many fixings or holidays",
-    "a date is not above the one before",
-    "the book has a fixing of this date",
-    "the book has no fixing of this date",
-    "the end is not after the start, or over 400 days after it",
-    "the start or the end is not a good day",
-    "neighbours are over 15 days apart, or under 64 good days lie before the start",
-    "a floor, amount, margin, rule, lag, shift, lockout or weight is outside its limits",
-    "the position is outside the pile",
-    "there is no fixing on the observed date",
-    "the step's letter is not listed",
-    "the call is not allowed in this phase",
-    "every day has its line",
-    "the pile is of another period, or its day is not the one due",
-    "the sum of weights would pass 400",
-    "the position is not one of the lines",
-    "a day has no line",
-    "the figures of the due differ",
-];
-
 impl Refusal {
-    // The number under which it is reported.
+    // The number under which it is reported; within the engine a refusal is the enum.
     pub fn number(self) -> u8
         ensures value { result ≡ (told self).number }
         ensures listed { (1 ≤ result) × (result ≤ 20) }
@@ -99,13 +77,52 @@ impl Refusal {
             Refusal::OtherFigures => 20,
         }
     }
+
+    fn reason(self) -> &'static str {
+        match self {
+            Refusal::Malformed(_) => "a field is cut short, is not due here or has a false count",
+            Refusal::OutOfRange => {
+                "a benchmark, date or rate is outside its values, or a rate is off the step"
+            }
+            Refusal::TooMany => "there are too many fixings or holidays",
+            Refusal::NotRising => "a date is not above the one before",
+            Refusal::Posted => "the book has a fixing of this date",
+            Refusal::NotPosted => "the book has no fixing of this date",
+            Refusal::Period => "the end is not after the start, or over 400 days after it",
+            Refusal::NotGood => "the start or the end is not a good day",
+            Refusal::Apart => {
+                "neighbours are over 15 days apart, or under 64 good days lie before the start"
+            }
+            Refusal::OutOfLimits => {
+                "a floor, amount, margin, rule, lag, shift, lockout or weight is outside its limits"
+            }
+            Refusal::Faulted(fault) => fault.reason(),
+            Refusal::UnknownStep => "the step's letter is not listed",
+            Refusal::WrongPhase => "the call is not allowed in this phase",
+            Refusal::AllAccrued => "every day has its line",
+            Refusal::OtherPeriod => "the pile is of another period, or its day is not the one due",
+            Refusal::TooHeavy => "the sum of weights would pass 400",
+            Refusal::BeyondLines => "the position is not one of the lines",
+            Refusal::NotAllAccrued => "a day has no line",
+            Refusal::OtherFigures => "the figures of the due differ",
+        }
+    }
+}
+
+// A fault is refused as it is.
+impl From<Fault> for Refusal {
+    ghost from_gives = { λ fault refusal. refusal ≡ Faulted fault };
+
+    fn from(fault: Fault) -> Refusal {
+        Self::Faulted(fault)
+    }
 }
 
 // The number and the reason in words.
 impl fmt::Display for Refusal {
     fn fmt<W: fmt::Write>(&self, f: &mut fmt::Formatter<W>) -> fmt::Result {
-        let number = self.number();
-        let reason = REASONS[usize::from(number) - 1];
-        write!(f, "{number}, {reason}")
+        write!(f, "{}, {}", self.number(), self.reason())
     }
 }
+
+impl Error for Refusal {}

@@ -6,7 +6,8 @@ use crate::refusal::Refusal;
 use crate::weight::Weight;
 
 // The sum of the weights of a coupon's observations, at most 400.
-#[derive(Clone, Copy)]
+// A type apart from the other bounded numbers, so that contracts name the unit.
+#[derive(Clone, Copy, Debug, PartialEq, Eq, PartialOrd, Ord)]
 pub struct TotalWeight {
     days: u32,
     ghost most: { days ≤ 400 },

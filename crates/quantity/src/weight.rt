@@ -5,7 +5,8 @@ use crate::days::DayCount;
 use crate::refusal::Refusal;
 
 // The days that one observation counts for, 1 to 15.
-#[derive(Clone, Copy)]
+// A type apart from the other bounded numbers, so that contracts name the unit.
+#[derive(Clone, Copy, Debug, PartialEq, Eq, PartialOrd, Ord)]
 pub struct Weight {
     days: u32,
     ghost least: { 1 ≤ days },
@@ -18,7 +19,7 @@ impl Weight {
         ensures { MatchResult result (λ w. w.days ≡ days.days) (λ e. ((days.days < 1) ⊎ (15 < days.days)) × (told e ≡ plain 10)) }
     {
         let days = days.number();
-        if days < 1 || days > 15 {
+        if !(1..=15).contains(&days) {
             return Err(Refusal::OutOfLimits);
         }
         Ok(Weight { days })

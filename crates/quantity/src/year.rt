@@ -4,7 +4,7 @@ ghost use Rattle.quantity.specs.Benchmarks.{days_in, scale};
 use crate::days::DayCount;
 
 // The days that a benchmark counts to a year, N.
-#[derive(Clone, Copy)]
+#[derive(Clone, Copy, Debug, PartialEq, Eq)]
 pub enum YearBase {
     Days360,
     Days365,
