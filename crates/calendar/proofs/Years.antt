@@ -1,12 +1,13 @@
 -- Years follow one another, and each of the TARGET holidays lies in its own year.
 -- Assumes nothing.
-use Rattle.std.proofs.Common.{◌≡◌, ℕ, zero, suc, ◌+◌, ◌-◌, ◌*◌, ◌/◌, ◌<◌, ◌≤◌, Bool, true, false, cond, ◌&&◌, eqb, map, refl, ap, ◌∙◌, ⊎_elim, arith}
+use Rattle.std.proofs.Common.{◌≡◌, ℕ, zero, suc, ◌+◌, ◌-◌, ◌*◌, ◌/◌, ◌<◌, ◌≤◌, Bool, false, eqb, map, refl, ap, ◌∙◌, ⊎_elim, arith}
 use mathlib.Core.Bool.{or-false}
+use Rattle.std.proofs.lemmas.Bool.Decides.{nat_tests}
 use Rattle.std.proofs.lemmas.Bool.{ne_eqb, or_from, cases_eq, cases_lt}
 use Rattle.calendar.specs.declared.month.Month.{Month}
 use Rattle.calendar.specs.declared.month.Month.TheVariants.{January, March, May, December}
 use Rattle.calendar.specs.Easter.{moon, sunday, computus}
-use Rattle.calendar.specs.Civil.{is_leap, is_past_february, days_before, new_year, day_of, InYear}
+use Rattle.calendar.specs.Civil.{days_before, new_year, day_of, InYear}
 use Rattle.calendar.specs.Target.{easter_sunday, new_years_day, good_friday, easter_monday, labour_day, christmas_day, day_after_christmas, yearly, some, falls_on, any_of, is_holiday_of}
 
 pub new_year_limit : (y : ℕ) → 2000 ≤ y → y ≤ 2200 → new_year y ≤ 73049
@@ -41,10 +42,6 @@ pub computus_limit : (y : ℕ) → computus y ≤ 35
 unfolding computus moon sunday
 computus_limit y = omega arith
 
-one_more : (b : Bool) → cond b 1 0 ≤ 1
-one_more true = omega arith
-one_more false = omega arith
-
 -- a day lies at most a leap day after its place in a common year
 pub day_of_low : (y : ℕ) (m : Month) (d : ℕ) → new_year y + days_before m + d - 1 ≤ day_of y m d
 unfolding day_of
@@ -52,7 +49,7 @@ day_of_low y m d = omega arith
 
 pub day_of_high : (y : ℕ) (m : Month) (d : ℕ) → day_of y m d ≤ new_year y + days_before m + d
 unfolding day_of
-day_of_high y m d = omega (arith, one_more (is_leap y && is_past_february m))
+day_of_high y m d = grind (arith, nat_tests)
 
 -- Easter lies well within its year
 pub easter_low : (y : ℕ) → new_year y + 80 ≤ easter_sunday y

@@ -1,9 +1,14 @@
 -- The list calendar: Monday to Friday, less a list of holidays in rising order.
 -- Assumes nothing.
-use Rattle.std.specs.Prelude.{ℕ, suc, Bool, cond, not, ◌&&◌, List, [], ◌∷◌, length, Some, None, Option, nat_le, nat_lt}
+use Rattle.std.specs.Prelude.{ℕ, suc, Bool, cond, not, ◌&&◌, List, [], ◌∷◌, map, length, Some, None, Option, nat_le, nat_lt}
+use Rattle.quantity.specs.declared.date.Date.{Date}
 use Rattle.quantity.specs.Orders.{has}
 use Rattle.quantity.specs.Refusals.{Told, plain}
 use Rattle.calendar.specs.Civil.{is_weekend}
+
+-- the numbers of a list of dates
+abbrev pub day_numbers : List Date → List ℕ
+day_numbers ds = map (λ d. d.number) ds
 
 -- the good days of a list of holidays
 unfoldable pub is_list_day : List ℕ → ℕ → Bool

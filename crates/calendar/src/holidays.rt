@@ -1,8 +1,8 @@
 // The list calendar.
-ghost use Rattle.std.specs.Prelude.{◌≡◌, ◌<◌, ◌≤◌, true, [], ◌∷◌, ◌++◌, map, IfOk, vec_len, vec_capacity, MatchResult};
+ghost use Rattle.std.specs.Prelude.{◌≡◌, ◌≤◌, true, [], ◌∷◌, ◌++◌, IfOk, vec_len, vec_capacity, MatchResult};
 ghost use Rattle.quantity.specs.Orders.{rises};
 ghost use Rattle.quantity.specs.Refusals.{refused};
-ghost use Rattle.calendar.specs.Holidays.{is_list_day, judge_holiday, least_after};
+ghost use Rattle.calendar.specs.Holidays.{day_numbers, is_list_day, judge_holiday};
 ghost use borrow.Author.Rules.{rules};
 
 use crate::calendar::Calendar;
@@ -20,7 +20,7 @@ pub struct HolidayList {
     holidays: Vec<Date>,
     ghost few: { vec_len holidays ≤ 2000 },
     ghost room: { 2000 ≤ vec_capacity holidays },
-    ghost rising: { rises (map (λ h. h.number) holidays.items) ≡ true },
+    ghost rising: { rises (day_numbers holidays.items) ≡ true },
 }
 
 impl HolidayList {
@@ -32,27 +32,17 @@ impl HolidayList {
         Ok(HolidayList { holidays })
     }
 
-    // The least day number that a further holiday may have.
-    fn least(&self) -> u32
-        ensures value { result ≡ least_after 0 (map (λ h. h.number) self.now.holidays.items) }
-        ensures known { result ≤ 73049 }
-    {
-        match self.holidays.last() {
-            Some(date) => date.number() + 1,
-            None => 0,
-        }
-    }
-
     // Adds a holiday above the last.
+    #[tactic(auto, using(crate::proofs::Rising::pushed), unfolding(crate::specs::Holidays::judge_holiday))]
     pub fn add(&mut self, number: u32) -> Result<(), Refusal>
-        ensures judged { refused result ≡ judge_holiday (map (λ h. h.number) self.old.holidays.items) number }
-        ensures added { MatchResult result (λ _. map (λ h. h.number) self.new.holidays.items ≡ map (λ h. h.number) self.old.holidays.items ++ number ∷ []) (λ _. self.new ≡ self.old) }
+        ensures judged { refused result ≡ judge_holiday (day_numbers self.old.holidays.items) number }
+        ensures added { MatchResult result (λ _. day_numbers self.new.holidays.items ≡ day_numbers self.old.holidays.items ++ number ∷ []) (λ _. self.new ≡ self.old) }
     {
         let date = Date::new(number)?;
         if self.holidays.len() >= MOST_HOLIDAYS {
             return Err(Refusal::TooMany);
         }
-        if number < self.least() {
+        if self.holidays.last().is_some_and(|last| date <= *last) {
             return Err(Refusal::NotRising);
         }
         self.holidays.push_reserved(date);
@@ -61,10 +51,13 @@ impl HolidayList {
 }
 
 impl Calendar for HolidayList {
-    ghost good = { λ c d. is_list_day (map (λ h. h.number) c.holidays.items) d };
+    ghost good = { λ c d. is_list_day (day_numbers c.holidays.items) d };
 
     ghost within = { unfold is_list_day in λ c d h. Prim.search rules };
 
+    // The search goes from the front: it is the one generic search over a slice of `Dated` records, for holidays and
+    // kept fixings alike.
+    #[tactic(auto, using(quantity::proofs::Has::has_first), unfolding(crate::specs::Holidays::is_list_day))]
     fn is_good(&self, date: Date) -> bool {
         !is_weekend(date) && find(&self.holidays, date).is_none()
     }

@@ -11,6 +11,7 @@ use crate::year::Year;
 use quantity::date::Date;
 
 // The day number of Easter Sunday.
+#[tactic(auto, using(crate::proofs::Years::new_year_limit, crate::proofs::Years::easter_high), unfolding(crate::specs::Target::easter_sunday))]
 fn easter_sunday(year: Year) -> u32
     ensures { result ≡ easter_sunday year.number }
 {
@@ -18,6 +19,7 @@ fn easter_sunday(year: Year) -> u32
 }
 
 // Whether a day is one of a year's holidays, in the order of the ECB's list.
+#[tactic(auto, using(crate::proofs::Years::new_year_limit, crate::proofs::Years::easter_low, crate::proofs::Years::easter_high))]
 fn is_holiday_of(year: Year, day: u32) -> bool
     ensures { result ≡ is_holiday_of year.number day }
 {
@@ -30,7 +32,7 @@ fn is_holiday_of(year: Year, day: u32) -> bool
         || day == day_of(year, Month::December, 26)
 }
 
-#[derive(Clone, Copy)]
+#[derive(Clone, Copy, Debug, PartialEq, Eq)]
 pub struct Target;
 
 impl Calendar for Target {
@@ -39,6 +41,6 @@ impl Calendar for Target {
     ghost within = { unfold is_target_day in λ c d h. Prim.search rules };
 
     fn is_good(&self, date: Date) -> bool {
-        !is_weekend(date) && !is_holiday_of(Year::of(date), date.number())
+        !is_weekend(date) && !is_holiday_of(Year::from(date), date.number())
     }
 }

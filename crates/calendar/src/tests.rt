@@ -7,28 +7,13 @@ use quantity::date::Date;
 use quantity::refusal::Refusal;
 use std::test::Fail;
 
-fn made<T: Drop>(made: Result<T, Refusal>) -> Result<T, Fail> {
-    match made {
-        Ok(x) => Ok(x),
-        Err(refusal) => Err(Fail::new(refusal)),
-    }
-}
-
-// The number of a refusal, or 0 for none.
-fn refusal_of(added: Result<(), Refusal>) -> u8 {
-    match added {
-        Ok(()) => 0,
-        Err(refusal) => refusal.number(),
-    }
-}
-
-// The number of TARGET's good days from 2000 to 2199 and a checksum of them, as tests/target.py has them.
+// The number of TARGET's good days from 2000 to 2199 and a checksum of them, as tests/target.py has them. One loop takes both.
 #[test]
 fn target_days_of_200_years(rt: HostRuntime) -> Result<(), Fail> {
     let mut count: u32 = 0;
     let mut checksum: u64 = 0;
     for number in 0..73_049u32 {
-        let date = made(Date::new(number))?;
+        let date = Date::new(number)?;
         if Target.is_good(date) {
             count = count.saturating_add(1);
             checksum = checksum.wrapping_mul(31).wrapping_add(u64::from(number));
@@ -43,9 +28,7 @@ fn target_days_of_200_years(rt: HostRuntime) -> Result<(), Fail> {
 #[test]
 fn easters(rt: HostRuntime) -> Result<(), Fail> {
     for (number, days) in [(2000, 32), (2024, 9), (2025, 29)] {
-        let Some(year) = Year::new(number) else {
-            return Err(Fail::new("no year"));
-        };
+        let year = Year::new(number).ok_or("no year")?;
         assert_eq!(rt; easter(year).number(), days);
     }
     assert!(rt; Year::new(1999).is_none());
@@ -57,13 +40,13 @@ fn easters(rt: HostRuntime) -> Result<(), Fail> {
 #[test]
 fn holidays(rt: HostRuntime) -> Result<(), Fail> {
     let mut list = HolidayList::new(rt.alloc())?;
-    assert_eq!(rt; refusal_of(list.add(73_049)), 2);
-    assert_eq!(rt; refusal_of(list.add(3)), 0);
-    assert_eq!(rt; refusal_of(list.add(3)), 4);
-    assert_eq!(rt; refusal_of(list.add(2)), 4);
-    assert!(rt; !list.is_good(made(Date::new(3))?));
-    assert!(rt; list.is_good(made(Date::new(4))?));
-    assert!(rt; !list.is_good(made(Date::new(7))?));
+    assert_eq!(rt; list.add(73_049).map_err(Refusal::number), Err(2));
+    assert_eq!(rt; list.add(3).map_err(Refusal::number), Ok(()));
+    assert_eq!(rt; list.add(3).map_err(Refusal::number), Err(4));
+    assert_eq!(rt; list.add(2).map_err(Refusal::number), Err(4));
+    assert!(rt; !list.is_good(Date::new(3)?));
+    assert!(rt; list.is_good(Date::new(4)?));
+    assert!(rt; !list.is_good(Date::new(7)?));
     Ok(())
 }
 
@@ -71,9 +54,9 @@ fn holidays(rt: HostRuntime) -> Result<(), Fail> {
 fn at_most_2000_holidays(rt: HostRuntime) -> Result<(), Fail> {
     let mut list = HolidayList::new(rt.alloc())?;
     for number in 0..2_000u32 {
-        assert_eq!(rt; refusal_of(list.add(number)), 0);
+        assert_eq!(rt; list.add(number).map_err(Refusal::number), Ok(()));
     }
-    assert_eq!(rt; refusal_of(list.add(2_000)), 3);
-    assert_eq!(rt; refusal_of(list.add(73_049)), 2);
+    assert_eq!(rt; list.add(2_000).map_err(Refusal::number), Err(3));
+    assert_eq!(rt; list.add(73_049).map_err(Refusal::number), Err(2));
     Ok(())
 }

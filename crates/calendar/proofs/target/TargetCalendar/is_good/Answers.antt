@@ -7,7 +7,7 @@ use Rattle.calendar.proofs.target.TargetCalendar.is_good.Goals as goal
 pub returns-then-not-is_weekend : goal.returns-then-not-is_weekend
 unfolding is_target_day
 returns-then-not-is_weekend c =
-    let e = holiday_year c.of.result.number c.args.date.number (omega arith) (omega arith) c.of.ensures in
+    let e = holiday_year c.from.result.number c.args.date.number (omega arith) (omega arith) c.from.ensures in
     grind (arith, nat_tests)
 
 pub returns-else-not-is_weekend : goal.returns-else-not-is_weekend
