@@ -1,6 +1,6 @@
 -- Fixing files, read field by field from the front.
 -- Assumes nothing.
-use Rattle.std.specs.Prelude.{ℕ, zero, suc, ◌+◌, ◌*◌, Bool, true, cond, ◌&&◌, List, [], ◌∷◌, length, drop, ℤ, pos, negsuc, Some, None, Ok, Err, Option, Result, ◌==◌, int_le, nat_le, nat_lt, slice_index}
+use Rattle.std.specs.Prelude.{ℕ, zero, suc, ◌+◌, ◌-◌, ◌*◌, Bool, true, cond, ◌&&◌, List, [], ◌∷◌, length, drop, ℤ, pos, negsuc, Some, None, Ok, Err, Option, Result, ◌==◌, int_le, nat_le, nat_lt, slice_index}
 use Rattle.std.specs.Int.{w32}
 use Rattle.std.proofs.Common.{to_z}
 use Rattle.std.specs.Option.{option_map}
@@ -67,6 +67,28 @@ unfoldable pub fields_from : ℕ → BenchmarkCode → ℕ → ℕ → ℕ → L
 fields_from zero b at n least s = Err (plain 3)
 fields_from (suc left) b at n least s =
     on_verdict (verdict b at n least (split s)) (at + 5) (λ e. fields_from left b (at + 11) (n + 1) (e.day + 1) (drop 11 s))
+
+-- where a reader of these fields stands: the benchmark, the offset, the fixings before it, the least day allowed, and the bytes from there on
+pub record Rest : Type 0 where
+  pub benchmark : BenchmarkCode
+  pub offset : ℕ
+  pub count : ℕ
+  pub least : ℕ
+  pub bytes : List ℕ
+
+-- what the next field is
+abbrev pub next_of : Rest → Result (Option Entry) Told
+next_of r = verdict r.benchmark r.offset r.count r.least (split r.bytes)
+
+-- where the reader stands after it
+abbrev pub after : Rest → Result (Option Entry) Told → Rest
+after r (Ok (Some e)) = record { benchmark = r.benchmark; offset = r.offset + 11; count = r.count + 1; least = e.day + 1; bytes = drop 11 r.bytes }
+after r (Ok None) = record { benchmark = r.benchmark; offset = r.offset + 5; count = r.count; least = r.least; bytes = drop 5 r.bytes }
+after r (Err x) = r
+
+-- what the fields from there on give
+abbrev pub tail_of : Rest → Result Tail Told
+tail_of r = fields_from (4001 - r.count) r.benchmark r.offset r.count r.least r.bytes
 
 -- the benchmark that a first field names, if it names one
 abbrev pub named : Option BenchmarkCode → Result BenchmarkCode Told

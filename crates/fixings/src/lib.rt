@@ -5,7 +5,8 @@ pub mod book;
 pub mod field;
 pub mod file;
 pub mod fixing;
-mod item;
+mod reader;
+mod search;
 pub mod source;
 #[cfg(test)]
 mod tests;

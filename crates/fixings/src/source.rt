@@ -24,7 +24,7 @@ impl<F: Source> Source for &F {
 }
 
 // One rate from a first date on.
-#[derive(Clone, Copy)]
+#[derive(Clone, Copy, Debug, PartialEq, Eq)]
 pub struct Projection {
     first: Date,
     level: Rate,
@@ -43,10 +43,6 @@ impl Source for Projection {
     ghost rates = { λ p d. from p.first.number p.level d.number };
 
     fn rate(&self, date: Date) -> Option<Rate> {
-        if date.number() < self.first.number() {
-            None
-        } else {
-            Some(self.level)
-        }
+        (self.first <= date).then_some(self.level)
     }
 }

@@ -8,58 +8,45 @@ use quantity::rate::Rate;
 use quantity::refusal::Refusal;
 use std::test::Fail;
 
-fn made<T: Drop>(made: Result<T, Refusal>) -> Result<T, Fail> {
-    match made {
-        Ok(x) => Ok(x),
-        Err(refusal) => Err(Fail::new(refusal)),
-    }
-}
-
 fn fixing(date: u32, ticks: i32) -> Result<Fixing, Fail> {
     Ok(Fixing {
-        date: made(Date::new(date))?,
-        rate: made(Rate::new(ticks))?,
+        date: Date::new(date)?,
+        rate: Rate::new(ticks)?,
     })
 }
 
-// The number of a refusal, or 0 for none.
-fn refusal_of(done: Result<(), Refusal>) -> u8 {
-    match done {
-        Ok(()) => 0,
-        Err(refusal) => refusal.number(),
-    }
-}
-
-fn post(book: &mut Book, date: u32, ticks: i32) -> Result<u8, Fail> {
+// What a post answers, a refusal by its number.
+fn post(book: &mut Book, date: u32, ticks: i32) -> Result<Result<(), u8>, Fail> {
     let fixing = fixing(date, ticks)?;
-    Ok(refusal_of(book.post(fixing.date, fixing.rate)))
+    Ok(book.post(fixing.date, fixing.rate).map_err(Refusal::number))
 }
 
-fn restate(book: &mut Book, date: u32, ticks: i32) -> Result<u8, Fail> {
+// What a restatement answers, a refusal by its number.
+fn restate(book: &mut Book, date: u32, ticks: i32) -> Result<Result<(), u8>, Fail> {
     let fixing = fixing(date, ticks)?;
-    Ok(refusal_of(book.restate(fixing.date, fixing.rate)))
+    Ok(
+        book.restate(fixing.date, fixing.rate)
+            .map_err(Refusal::number),
+    )
 }
 
-// The rate of a date in ticks, or the failure.
-fn ticks_on(source: &impl Source, date: u32) -> Result<i32, Fail> {
-    match source.rate(made(Date::new(date))?) {
-        Some(rate) => Ok(rate.ticks()),
-        None => Err(Fail::new("no rate")),
-    }
+// The rate of a date in ticks, or none.
+fn ticks_on(source: &impl Source, date: u32) -> Result<Option<i32>, Fail> {
+    Ok(source.rate(Date::new(date)?).map(Rate::ticks))
 }
 
 #[test]
 fn posts_and_restates(rt: HostRuntime) -> Result<(), Fail> {
     let mut book = Book::new(BenchmarkCode::Sofr);
-    assert_eq!(rt; post(&mut book, 9, 53_100)?, 0);
-    assert_eq!(rt; post(&mut book, 7, 53_000)?, 0);
-    assert_eq!(rt; post(&mut book, 8, 53_150)?, 2);
-    assert_eq!(rt; post(&mut book, 9, 53_200)?, 5);
-    assert_eq!(rt; restate(&mut book, 8, 53_200)?, 6);
-    assert_eq!(rt; restate(&mut book, 9, 53_250)?, 2);
-    assert_eq!(rt; restate(&mut book, 9, 53_200)?, 0);
-    assert_eq!(rt; ticks_on(&book, 9)?, 53_200);
-    assert_eq!(rt; ticks_on(&book, 7)?, 53_000);
+    assert_eq!(rt; post(&mut book, 9, 53_100)?, Ok(()));
+    assert_eq!(rt; post(&mut book, 7, 53_000)?, Ok(()));
+    assert_eq!(rt; post(&mut book, 8, 53_150)?, Err(2));
+    assert_eq!(rt; post(&mut book, 9, 53_200)?, Err(5));
+    assert_eq!(rt; restate(&mut book, 8, 53_200)?, Err(6));
+    assert_eq!(rt; restate(&mut book, 9, 53_250)?, Err(2));
+    assert_eq!(rt; restate(&mut book, 9, 53_200)?, Ok(()));
+    assert_eq!(rt; ticks_on(&book, 9)?, Some(53_200));
+    assert_eq!(rt; ticks_on(&book, 7)?, Some(53_000));
     Ok(())
 }
 
@@ -67,10 +54,10 @@ fn posts_and_restates(rt: HostRuntime) -> Result<(), Fail> {
 fn at_most_600_fixings(rt: HostRuntime) -> Result<(), Fail> {
     let mut book = Book::new(BenchmarkCode::Sonia);
     for date in 0..600u32 {
-        assert_eq!(rt; post(&mut book, date, 1)?, 0);
+        assert_eq!(rt; post(&mut book, date, 1)?, Ok(()));
     }
-    assert_eq!(rt; post(&mut book, 600, 1)?, 3);
-    assert_eq!(rt; post(&mut book, 5, 1)?, 3);
+    assert_eq!(rt; post(&mut book, 600, 1)?, Err(3));
+    assert_eq!(rt; post(&mut book, 5, 1)?, Err(3));
     let mut area = [fixing(0, 0)?; 600];
     assert_eq!(rt; book.list(&mut area), 600);
     Ok(())
@@ -79,7 +66,7 @@ fn at_most_600_fixings(rt: HostRuntime) -> Result<(), Fail> {
 #[test]
 fn lists_and_leaves_the_rest(rt: HostRuntime) -> Result<(), Fail> {
     let mut book = Book::new(BenchmarkCode::Estr);
-    assert_eq!(rt; post(&mut book, 8_853, 39_100)?, 0);
+    assert_eq!(rt; post(&mut book, 8_853, 39_100)?, Ok(()));
     let mut area = [fixing(1, -10)?; 600];
     assert_eq!(rt; book.list(&mut area), 1);
     assert_eq!(rt; area[0].rate.ticks(), 39_100);
@@ -92,9 +79,9 @@ fn lists_and_leaves_the_rest(rt: HostRuntime) -> Result<(), Fail> {
 fn projects_from_a_first_date(rt: HostRuntime) -> Result<(), Fail> {
     let first = fixing(100, 39_000)?;
     let projection = Projection::new(first.date, first.rate);
-    assert!(rt; projection.rate(made(Date::new(99))?).is_none());
-    assert_eq!(rt; ticks_on(&projection, 100)?, 39_000);
-    assert_eq!(rt; ticks_on(&projection, 73_048)?, 39_000);
+    assert_eq!(rt; ticks_on(&projection, 99)?, None);
+    assert_eq!(rt; ticks_on(&projection, 100)?, Some(39_000));
+    assert_eq!(rt; ticks_on(&projection, 73_048)?, Some(39_000));
     Ok(())
 }
 
@@ -104,35 +91,34 @@ const FILE: [u8; 31] = [
     0x8a, 9, 0, 2, 0, 2,
 ];
 
-// The refusal of a file: its number, and the offset of a 1.
-fn refused(rt: HostRuntime, bytes: &[u8]) -> Result<(u8, usize), Fail> {
+// The length of a file, or the number of its refusal with the offset of a 1.
+fn read(rt: HostRuntime, bytes: &[u8]) -> Result<Result<usize, (u8, usize)>, Fail> {
     let mut file = FixingFile::new(rt.alloc())?;
-    match file.read(bytes) {
-        Ok(length) => Ok((0, length)),
-        Err(refusal) => match refusal {
-            Refusal::Malformed(offset) => Ok((1, offset)),
-            other => Ok((other.number(), 0)),
-        },
-    }
+    Ok(
+        file.read(bytes).map_err(|refusal| match refusal {
+            Refusal::Malformed(offset) => (1, offset),
+            other => (other.number(), 0),
+        }),
+    )
 }
 
 #[test]
 fn reads_a_file(rt: HostRuntime) -> Result<(), Fail> {
     let mut file = FixingFile::new(rt.alloc())?;
-    assert_eq!(rt; made(file.read(&FILE))?, 31);
+    assert_eq!(rt; file.read(&FILE)?, 31);
     assert_eq!(rt; file.benchmark().number(), 3);
-    assert_eq!(rt; ticks_on(&file, 8_853)?, 39_100);
-    assert_eq!(rt; ticks_on(&file, 8_858)?, 39_050);
-    assert!(rt; file.rate(made(Date::new(8_854))?).is_none());
+    assert_eq!(rt; ticks_on(&file, 8_853)?, Some(39_100));
+    assert_eq!(rt; ticks_on(&file, 8_858)?, Some(39_050));
+    assert_eq!(rt; ticks_on(&file, 8_854)?, None);
     Ok(())
 }
 
 #[test]
 fn refuses_a_file_cut_at_any_byte(rt: HostRuntime) -> Result<(), Fail> {
     for length in 0..31usize {
-        assert_eq!(rt; refused(rt, &FILE[0..length])?.0, 1);
+        assert!(rt; read(rt, &FILE[0..length])?.is_err_and(|refused| refused.0 == 1));
     }
-    assert_eq!(rt; refused(rt, &FILE[0..25])?, (1, 15));
+    assert_eq!(rt; read(rt, &FILE[0..25])?, Err((1, 15)));
     Ok(())
 }
 
@@ -151,7 +137,7 @@ fn refuses_a_damaged_file(rt: HostRuntime) -> Result<(), Fail> {
         let mut bytes = FILE;
         assert!(rt; at < 31);
         bytes[at] = byte;
-        assert_eq!(rt; refused(rt, &bytes)?, (number, offset));
+        assert_eq!(rt; read(rt, &bytes)?, Err((number, offset)));
     }
     Ok(())
 }
@@ -164,6 +150,6 @@ fn refuses_the_4001st_fixing(rt: HostRuntime) -> Result<(), Fail> {
         let [a, b, c, d] = date.to_be_bytes();
         bytes.extend_from_slice(&[2, 0, 8, a, b, c, d, 0, 0, 0, 1])?;
     }
-    assert_eq!(rt; refused(rt, bytes.as_slice())?, (3, 0));
+    assert_eq!(rt; read(rt, bytes.as_slice())?, Err((3, 0)));
     Ok(())
 }
