@@ -1,5 +1,6 @@
 -- The days that were found make a schedule, or show why there is none.
-use Rattle.std.proofs.Common.{◌≡◌, ℕ, zero, suc, ◌+◌, ◌-◌, ◌<◌, ◌≤◌, Bool, true, false, leb, List, ℤ, pos, ◌+ℤ◌, sym, ap, ◌∙◌, inl, inr, ⊎_elim, eq-or-lt_of_le, arith}
+use Rattle.std.proofs.Common.{◌≡◌, ℕ, ◌+◌, ◌-◌, ◌<◌, ◌≤◌, Bool, true, false, leb, List, ℤ, pos, ◌+ℤ◌, ap, ◌∙◌, inl, inr, ⊎_elim, eq-or-lt_of_le, arith}
+use Rattle.std.proofs.lemmas.Bool.{both_ways}
 use Rattle.std.proofs.lemmas.Bool.Decides.{leb_tells}
 use Rattle.quantity.specs.declared.date.Date.{Date}
 use Rattle.schedule.specs.declared.schedule.Schedule.{Schedule}
@@ -9,7 +10,7 @@ use Rattle.schedule.specs.Days.{at}
 use Rattle.schedule.specs.Rank.{rank}
 use Rattle.schedule.specs.Filled.{Filled, Stuck}
 use Rattle.schedule.specs.Refusals.{Reason, period, not_good, apart, Says, number}
-use Rattle.schedule.proofs.Ranks.{rank_neighbour, rank_mono, rank_same, last_before}
+use Rattle.schedule.proofs.Ranks.{rank_neighbour, rank_mono, rank_same, ranked_back, last_before}
 
 -- a good day with none before it is a reason to refuse
 pub gap_from_stuck : (good : ℕ → Bool) (start end n : ℕ) → rank good start + n ≡ rank good end → Stuck good end n → Says good start end apart
@@ -26,9 +27,7 @@ gap_from_stuck good start end n count s =
       none = e.1.none;
       apart = ⊎_elim
           (λ (near : (leb s.day (e.0 + 15) ≡ true) × (s.day ≤ e.0 + 15)).
-          let clash : true ≡ false = sym e.1.day ∙ s.alone e.0 e.1.earlier near.1 in
-          let no : ◌≡◌ {A = ℕ} 0 1 = cc in
-          absurd (omega arith))
+          absurd (both_ways (good e.0) (s.alone e.0 e.1.earlier near.1) e.1.day))
           (λ (far : (leb s.day (e.0 + 15) ≡ false) × (e.0 + 15 < s.day)). far.1)
           (leb_tells s.day (e.0 + 15));
       low = omega (arith, s.placed, up);
@@ -51,16 +50,9 @@ module _ (good : ℕ → Bool) (start : ℕ) (end : Date) (n : ℕ) (days : List
   up : (k : ℕ) → k < n + 64 → rank good (at days (k + 1)) ≡ rank good (at days k) + 1
   up k lt = let b = f.steps k lt in rank_neighbour good (at days k) (at days (k + 1)) b.day b.earlier b.none
 
-  -- the number of good days before the day m places before the end
-  ranked_back : (m k : ℕ) → m + k ≡ n + 64 → rank good (at days k) + m ≡ rank good end.number
-  ranked_back zero k e =
-      let last : rank good (at days k) ≡ rank good end.number = ap (λ (i : ℕ). rank good (at days i)) {x = k} {y = n + 64} (omega arith) ∙ ap (rank good) last_is in
-      omega (arith, last)
-  ranked_back (suc m) k e = omega (arith, ranked_back m (k + 1) (omega arith), up k (omega arith))
-
-  -- and by its index
+  -- the number of good days before a day by its index
   pub ranked : (k : ℕ) → k ≤ n + 64 → rank good (at days k) + 64 ≡ rank good start + k
-  ranked k h = omega (arith, ranked_back ((n + 64) - k) k (omega arith), count)
+  ranked k h = omega (arith, ranked_back good (at days) (n + 64) up ((n + 64) - k) k (omega arith), ap (rank good) last_is, count)
 
   pub start_is : at days 64 ≡ start
   start_is = rank_same good (at days 64) start (all_good 64 (omega arith)) start_good (omega (arith, ranked 64 (omega arith)))
@@ -76,16 +68,12 @@ module _ (good : ℕ → Bool) (start : ℕ) (end : Date) (n : ℕ) (days : List
       let second_at : at days (k + 1) ≡ far.second = rank_same good (at days (k + 1)) far.second (all_good (k + 1) (omega arith)) far.second_good (omega (arith, ranked (k + 1) (omega arith), far.low, next)) in
       omega (arith, first_at, second_at, (f.steps k within).near, far.apart)
 
--- a test has one answer
-clash : (b : Bool) → b ≡ true → b ≡ false → ⊥
-clash b p q = let no : ◌≡◌ {A = ℕ} 0 1 = cc in omega arith
-
 -- past the tests, no refusal under a smaller number than that of a gap is true
 pub gap_first : (good : ℕ → Bool) (start end : ℕ) → start < end → end ≤ start + 400 → good start ≡ true → good end ≡ true → (q : Reason) → number q < 9 → Says good start end q → ⊥
 gap_first good start end after soon start_good end_good period less (inl before) = omega arith
 gap_first good start end after soon start_good end_good period less (inr late) = omega arith
-gap_first good start end after soon start_good end_good not_good less (inl bad) = clash (good start) start_good bad
-gap_first good start end after soon start_good end_good not_good less (inr bad) = clash (good end) end_good bad
+gap_first good start end after soon start_good end_good not_good less (inl bad) = both_ways (good start) bad start_good
+gap_first good start end after soon start_good end_good not_good less (inr bad) = both_ways (good end) bad end_good
 gap_first good start end after soon start_good end_good apart less says = omega arith
 
 module _ (good : ℕ → Bool) (start end : Date) (s : Schedule) (after : start.number < end.number) (soon : end.number ≤ start.number + 400) (start_good : good start.number ≡ true) (end_good : good end.number ≡ true) (count : rank good start.number + s.n ≡ rank good end.number) (f : Filled good end s.n s.days) where

@@ -1,6 +1,6 @@
 -- A calendar, a start and an end have one schedule.
 -- Assumes nothing.
-use Rattle.std.proofs.Common.{◌≡◌, ℕ, zero, suc, ◌+◌, ◌-◌, ◌<◌, ◌≤◌, Bool, true, ℤ, pos, negsuc, ◌+ℤ◌, nat_abs, sym, ap, ◌∙◌, subst, ⊎_elim, eq-or-lt_of_le, arith}
+use Rattle.std.proofs.Common.{◌≡◌, ℕ, ◌+◌, ◌-◌, ◌<◌, ◌≤◌, Bool, true, ℤ, pos, negsuc, ◌+ℤ◌, nat_abs, sym, ap, ◌∙◌, subst, ⊎_elim, eq-or-lt_of_le, arith}
 use Rattle.std.proofs.lemmas.Int.{ints}
 use Rattle.std.proofs.lemmas.Bool.{cases_lt}
 use Rattle.std.proofs.lemmas.Bool.Decides.{nat_tests}
@@ -10,7 +10,7 @@ use Rattle.schedule.specs.Days.{at}
 use Rattle.schedule.specs.Meaning.{day_at, Scheduled, Same}
 use Rattle.schedule.specs.Positions.{within}
 use Rattle.schedule.specs.Rank.{rank}
-use Rattle.schedule.proofs.Ranks.{rank_neighbour, rank_same}
+use Rattle.schedule.proofs.Ranks.{rank_neighbour, rank_same, ranked_back}
 
 -- the position of an index
 record Placed (n k : ℕ) : Type 0 where
@@ -43,17 +43,12 @@ module _ (good : ℕ → Bool) (start end : Date) (s : Schedule) (h : Scheduled 
       rank_neighbour good (at s.days k) (at s.days (k + 1)) (day_good k lt) (s.rises k lt)
       (λ x a b. h.none_between p.i p.inside x (omega (arith, low)) (omega (arith, high)))
 
-  ranked_back : (m k : ℕ) → m + k ≡ s.n + 64 → rank good (at s.days k) + m ≡ rank good end.number
-  ranked_back zero k e =
-      let last : rank good (at s.days k) ≡ rank good end.number = ap (λ (i : ℕ). rank good (at s.days i)) {x = k} {y = s.n + 64} (omega arith) ∙ ap (rank good) last_day in
-      omega (arith, last)
-  ranked_back (suc m) k e = omega (arith, ranked_back m (k + 1) (omega arith), up k (omega arith))
+  -- the number of good days before the day m places before the end
+  pub ranked : (m k : ℕ) → m + k ≡ s.n + 64 → rank good (at s.days k) + m ≡ rank good end.number
+  ranked m k e = ranked_back good (at s.days) (s.n + 64) up m k e ∙ ap (rank good) last_day
 
   pub counted : rank good start.number + s.n ≡ rank good end.number
-  counted = omega (arith, ranked_back s.n 64 (omega arith), ap (rank good) h.starts)
-
-  pub ranked : (k : ℕ) → k < s.n + 64 → rank good (at s.days k) + (s.n + 64 - k) ≡ rank good end.number
-  ranked k lt = ranked_back (s.n + 64 - k) k (omega arith)
+  counted = omega (arith, ranked s.n 64 (omega arith), ap (rank good) h.starts)
 
 pub unique : (good : ℕ → Bool) (start end : Date) (s t : Schedule) → Scheduled good start end s → Scheduled good start end t → Same s t
 unique good start end s t f g =
@@ -62,6 +57,6 @@ unique good start end s t f g =
       length = n;
       days = λ k h. ⊎_elim
           (λ (e : k ≡ s.n + 64). ap (at s.days) e ∙ last_day good start end s f ∙ sym (ap (at t.days) (omega arith) ∙ last_day good start end t g))
-          (λ (lt : k < s.n + 64). rank_same good _ _ (day_good good start end s f k lt) (day_good good start end t g k (omega arith)) (omega (arith, ranked good start end s f k lt, ranked good start end t g k (omega arith))))
+          (λ (lt : k < s.n + 64). rank_same good _ _ (day_good good start end s f k lt) (day_good good start end t g k (omega arith)) (omega (arith, ranked good start end s f (s.n + 64 - k) k (omega arith), ranked good start end t g (t.n + 64 - k) k (omega arith))))
           (eq-or-lt_of_le h);
     }

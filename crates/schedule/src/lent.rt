@@ -3,7 +3,7 @@ ghost use Rattle.schedule.specs.declared.schedule.Schedule.{Schedule as Days};
 
 use crate::schedule::Schedule;
 
-// What has a schedule, of its own or lent.
+// What has a schedule, of its own or lent. The library's `AsRef` does not say what it lends.
 pub trait AsSchedule {
     ghost schedule: { Self → Days };
 

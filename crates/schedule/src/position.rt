@@ -7,6 +7,5 @@ use quantity::position::Position;
 pub fn is_within(position: Position, n: u32) -> bool
     ensures { result ≡ within n position.value }
 {
-    let value = position.value();
-    value >= -64 && i64::from(value) < i64::from(n)
+    (-64..i64::from(n)).contains(&i64::from(position.value()))
 }

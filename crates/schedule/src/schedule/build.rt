@@ -11,14 +11,12 @@ use quantity::date::Date;
 use quantity::days::DayCount;
 use quantity::refusal::Refusal;
 
-// The last good day among the 15 before `day`.
+// The last good day among the 15 before `day`. A loop, since the check finds no proof for a chain with `find_map`.
 fn before<C: Calendar>(calendar: &C, day: Date) -> Option<Date>
     ensures { MatchOption result (NoneBefore (C.good calendar.now) day.number) (λ e. Before (C.good calendar.now) e.number day.number) }
 {
     for back in 1..=15u32 {
-        let Some(earlier) = day.minus(DayCount::new(back)) else {
-            return None;
-        };
+        let earlier = day.minus(DayCount::new(back))?;
         if calendar.is_good(earlier) {
             return Some(earlier);
         }
@@ -32,18 +30,13 @@ fn count<C: Calendar>(calendar: &C, start: Date, end: Date) -> u32
     ensures few { start.number + result ≤ end.number }
     ensures ranked { rank (C.good calendar.now) start.number + result ≡ rank (C.good calendar.now) end.number }
 {
-    let mut n = 0;
-    for number in start.number()..end.number() {
-        if let Ok(day) = Date::new(number) {
-            if calendar.is_good(day) {
-                n += 1;
-            }
-        }
-    }
-    n
+    (start.number()..end.number())
+        .filter(|number| Date::new(*number).is_ok_and(|day| calendar.is_good(day)))
+        .count() as u32
 }
 
-// The days of positions -64 to n, found backwards from the end; none where a day has no good day among the 15 before it.
+// The days of positions -64 to n, found backwards from the end, by index since each comes from the one after it;
+// none where a day has no good day among the 15 before it.
 fn fill<C: Calendar>(calendar: &C, end: Date, n: u32) -> Option<[Date; 465]>
     requires few { n ≤ 400 }
     requires good_end { C.good calendar.now end.number ≡ true }
@@ -67,16 +60,14 @@ impl Schedule {
         ensures built { MatchResult result (λ _. Scheduled (C.good calendar.now) start end self.new) (λ e. Refused (C.good calendar.now) start.number end.number (told e) × (self.new ≡ self.old)) }
         ensures only { OnOk result ((s : Schedule) → Scheduled (C.good calendar.now) start end s → Same s self.new) }
     {
-        if end.number() <= start.number() || end.number() > start.number() + 400 {
+        if end <= start || end.number() > start.number() + 400 {
             return Err(Refusal::Period);
         }
         if !calendar.is_good(start) || !calendar.is_good(end) {
             return Err(Refusal::NotGood);
         }
         let n = count(calendar, start, end);
-        let Some(days) = fill(calendar, end, n) else {
-            return Err(Refusal::Apart);
-        };
+        let days = fill(calendar, end, n).ok_or(Refusal::Apart)?;
         *self = Schedule { days, n };
         Ok(())
     }

@@ -8,6 +8,7 @@ use crate::schedule::Schedule;
 use quantity::date::Date;
 use quantity::days::DayCount;
 use quantity::position::Position;
+use std::array;
 
 impl Schedule {
     // The schedule that a place begins with: 66 consecutive days from 2000-01-01, of which one accrues.
@@ -15,12 +16,7 @@ impl Schedule {
         ensures length { result.n ≡ 1 }
         ensures days { (k : ℕ) → k < 465 → at result.days k ≡ min k 65 }
     {
-        let mut days = [Date::first(); 465];
-        for k in 0..465u32 {
-            if let Ok(day) = Date::new(k.min(65)) {
-                days[k as usize] = day;
-            }
-        }
+        let days = array::from_fn(|k| Date::new(k.min(65) as u32).unwrap());
         Schedule { days, n: 1 }
     }
 
@@ -47,14 +43,7 @@ impl Schedule {
         if !is_within(i, self.n) {
             return None;
         }
-        Some(self.step((i.value() + 64) as usize))
-    }
-
-    // The days from index k to the next.
-    fn step(&self, k: usize) -> DayCount
-        requires { k < self.now.n + 64 }
-        ensures { result.days ≡ at self.now.days (k + 1) - at self.now.days k }
-    {
-        DayCount::new(self.days[k + 1].number() - self.days[k].number())
+        let k = (i.value() + 64) as usize;
+        self.days[k + 1].since(self.days[k])
     }
 }

@@ -1,12 +1,17 @@
-use Rattle.std.proofs.Common.{min, ◌∙◌, arith}
-use Rattle.schedule.proofs.Consecutive.{one_more}
+use Rattle.std.proofs.Common.{◌≡◌, ℕ, ◌+◌, ◌<◌, min, arith, rules}
+use Rattle.schedule.specs.Days.{at, epoch}
 use Rattle.schedule.proofs.schedule.Schedule.new.Goals as goal
-use Rattle.schedule.proofs.schedule.Schedule.new.Goals.{in-Ok, in_default}
 
-pub loop-k-preserved : goal.loop-k-preserved
-loop-k-preserved c =
-    elim c.match-new.branch [
-      | in-Ok w ↦
-          rw w.days-is (one_more (λ j. min j 65) c.loop-k.days c.loop-k.k w.in-Ok.day c.loop-k.invariant.0 c.loop-k-test.true c.loop-k.invariant.1 (w.in-Ok.ensures ∙ omega arith))
-      | in_default w ↦ absurd (omega (arith, w.in_default.ensures))
-    ]
+pub invariant_of-result : goal.invariant_of-result
+invariant_of-result c =
+    let days : (k : ℕ) → k < 465 → at c.from_fn-days.result k ≡ min k 65 = λ k h. let e = c.from_fn-days.ensures.items.at k epoch h in search rules in
+    record {
+      some = omega arith;
+      few = omega arith;
+      rises = λ k h. omega (arith, days k (omega arith), days (k + 1) (omega arith));
+      close = λ k h. omega (arith, days k (omega arith), days (k + 1) (omega arith));
+      span = omega (arith, days 64 (omega arith), days 65 (omega arith));
+    }
+
+pub returns-clause-days : goal.returns-clause-days
+returns-clause-days c = λ k h. let e = c.from_fn-days.ensures.items.at k epoch h in search rules
