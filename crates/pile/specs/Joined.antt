@@ -44,7 +44,7 @@ module _ (s : Schedule) where
   -- a gap that is told is in range
   told : (i : ℤ) (b : Bool) (g : DayCount) → within s.n i ≡ b → Some g ≡ cond b (Some (gap_at s i)) None → (within s.n i ≡ true) × (g ≡ gap_at s i)
   told i true g w e = (w, cc)
-  told i false g w e = let z : ◌≡◌ {A = ℕ} 0 1 = cc in absurd (omega arith)
+  told i false g w e = absurd cc
 
   pub gap_known : (i : ℤ) (g : DayCount) → Some g ≡ cond (within s.n i) (Some (gap_at s i)) None → (1 ≤ g.days) × (g.days ≤ 15)
   gap_known i g e =
@@ -64,7 +64,7 @@ module _ (s : Schedule) where
   -- the day of the pile at a position is that of the schedule
   day_is : (b : Bool) (i : ℤ) (d : Date) → ◌≡◌ {A = Result Date Fault} (cond b (Ok (day_at s i)) (Err (outside i))) (Ok d) → day_at s i ≡ d
   day_is true i d e = cc
-  day_is false i d e = let z : ◌≡◌ {A = ℕ} 0 1 = cc in absurd (omega arith)
+  day_is false i d e = absurd cc
 
   pub direct_lawful : (rates : Date → Option Rate) → Lawful (direct s rates)
   direct_lawful rates = record {

@@ -1,12 +1,10 @@
 -- A layer over a lawful pile is lawful.
 -- Assumes nothing.
-use Rattle.std.specs.Prelude.{ℤ, Result}
-use Rattle.pile.specs.declared.observations.ObservedRate.{ObservedRate}
-use Rattle.quantity.specs.declared.fault.Fault.{Fault}
+use Rattle.std.specs.Prelude.{◌≡◌, ℤ}
 use Rattle.pile.specs.Piles.{Pile, Lawful}
-use Rattle.pile.specs.Layers.{over}
+use Rattle.pile.specs.Layers.{Rates, over}
 
-pub over_lawful : (f : ℤ → ℤ) (rates : ℤ → Result ObservedRate Fault) (m : Pile) → Lawful m → Lawful (over f rates m)
+pub over_lawful : (f : ℤ → ℤ) (rates : Rates) (m : Pile) → Lawful m → Lawful (over f rates m)
 over_lawful f rates m h = record {
   some = h.some;
   few = h.few;
@@ -18,3 +16,7 @@ over_lawful f rates m h = record {
   no_weight = λ i e. simp e;
   no_rate = λ i e. simp e;
 }
+
+-- so is what is made like one
+pub layered_lawful : (f : ℤ → ℤ) (rates : Rates) (m l : Pile) → l ≡ over f rates m → Lawful m → Lawful l
+layered_lawful f rates m l e h = rw e (over_lawful f rates m h)

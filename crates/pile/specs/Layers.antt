@@ -13,8 +13,12 @@ use Rattle.pile.specs.declared.observations.ObservedRate.{ObservedRate}
 abbrev pub passed : {T : Type 0} → ℕ → ℤ → Result T Fault → Result T Fault
 passed n i below = cond (within n i) (lifted below) (Err (outside i))
 
+-- a rate with its observed date, or a fault, for each position
+abbrev pub Rates : Type 0
+Rates = ℤ → Result ObservedRate Fault
+
 -- a layer over m: the weight is that of position f i below, and `rates i` is the rate found below for position i
-abbrev pub over : (ℤ → ℤ) → (ℤ → Result ObservedRate Fault) → Pile → Pile
+abbrev pub over : (ℤ → ℤ) → Rates → Pile → Pile
 over f rates m = record {
   n = m.n;
   day = m.day;

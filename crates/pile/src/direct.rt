@@ -2,7 +2,7 @@ ghost use Rattle.std.specs.Prelude.{◌≡◌};
 ghost use Rattle.pile.specs.Direct.{direct, Weighs};
 ghost use Rattle.pile.specs.Joined.{direct_lawful};
 
-use crate::fault::outside;
+use crate::fault::{inside, outside};
 use crate::observations::{Observations, ObservedRate};
 use fixings::source::Source;
 use quantity::date::Date;
@@ -10,7 +10,6 @@ use quantity::fault::{Cause, Fault};
 use quantity::position::Position;
 use quantity::weight::Weight;
 use schedule::lent::AsSchedule;
-use schedule::position::is_within;
 
 // The days of a schedule, each with the source's rate on that day, and for its weight the days to the next.
 #[derive(Drop)]
@@ -21,6 +20,7 @@ pub struct Direct<S, F> {
 
 impl<S: AsSchedule, F> Direct<S, F> {
     // The pile of a schedule and a source. Its weights are the days from each position to the next.
+    #[tactic(auto, using(crate::specs::Joined::weighs))]
     pub fn new(schedule: S, source: F) -> Direct<S, F>
         ensures schedule { result.schedule ≡ schedule }
         ensures source { result.source ≡ source }
@@ -40,34 +40,22 @@ impl<S: AsSchedule, F: Source> Observations for Direct<S, F> {
     }
 
     fn day(&self, i: Position) -> Result<Date, Fault> {
-        match self.schedule.as_schedule().day(i) {
-            Some(day) => Ok(day),
-            None => Err(outside(i)),
-        }
+        self.schedule.as_schedule().day(i).ok_or(outside(i))
     }
 
     fn weight(&self, i: Position) -> Result<Weight, Fault> {
-        let Some(gap) = self.schedule.as_schedule().gap(i) else {
-            return Err(outside(i));
-        };
-        match Weight::new(gap) {
-            Ok(weight) => Ok(weight),
-            Err(_) => unreachable(),
-        }
+        let gap = self.schedule.as_schedule().gap(i).ok_or(outside(i))?;
+        Ok(Weight::new(gap).unwrap())
     }
 
     fn rate(&self, i: Position) -> Result<ObservedRate, Fault> {
-        if !is_within(i, self.schedule.as_schedule().length()) {
-            return Err(outside(i));
-        }
+        inside(i, self.length())?;
         let observed = self.day(i)?;
-        match self.source.rate(observed) {
-            Some(rate) => Ok(ObservedRate { rate, observed }),
-            None => Err(Fault {
-                cause: Cause::NoFixing(observed),
-                position: i,
-                above: 0,
-            }),
-        }
+        let rate = self.source.rate(observed).ok_or(Fault {
+            cause: Cause::NoFixing(observed),
+            position: i,
+            above: 0,
+        })?;
+        Ok(ObservedRate { rate, observed })
     }
 }

@@ -1,17 +1,13 @@
-ghost use Rattle.std.specs.Prelude.{◌≡◌, ◌⊎◌, pos, negsuc, ◌<ℤ◌, MatchResult};
+ghost use Rattle.std.specs.Prelude.{◌≡◌, ◌⊎◌, refl, pos, negsuc, ◌<ℤ◌, MatchResult};
 ghost use Rattle.quantity.specs.Refusals.{told, plain};
 ghost use Rattle.pile.specs.Layers.{floored, at_least};
-ghost use Rattle.pile.specs.Kept.{over_lawful};
 
-use crate::fault::{lift, outside};
+use crate::layer::Layer;
 use crate::observations::{Observations, ObservedRate};
-use quantity::date::Date;
 use quantity::fault::Fault;
 use quantity::position::Position;
 use quantity::rate::Rate;
 use quantity::refusal::Refusal;
-use quantity::weight::Weight;
-use schedule::position::is_within;
 
 // The rate is at least `floor`.
 #[derive(Drop)]
@@ -24,10 +20,7 @@ pub struct Floor<P> {
 pub fn floor_of(ticks: i32) -> Result<Rate, Refusal>
     ensures { MatchResult result (λ d. d.ticks ≡ ticks) (λ e. ((ticks <ℤ negsuc 249999) ⊎ (pos 250000 <ℤ ticks)) × (told e ≡ plain 10)) }
 {
-    match Rate::new(ticks) {
-        Ok(rate) => Ok(rate),
-        Err(_) => Err(Refusal::OutOfLimits),
-    }
+    Rate::new(ticks).map_err(|_| Refusal::OutOfLimits)
 }
 
 impl<P> Floor<P> {
@@ -39,38 +32,31 @@ impl<P> Floor<P> {
     }
 }
 
-impl<P: Observations> Observations for Floor<P> {
-    ghost meaning = { λ s. floored s.floor (P.Observations.meaning s.below) };
+impl<P: Observations> Layer for Floor<P> {
+    type Below = P;
 
-    ghost lawful = { λ s.
-        let m = P.Observations.meaning s.below in
-        over_lawful (λ i. i) (λ i. at_least s.floor (m.rate i)) m (P.Observations.lawful s.below) };
+    ghost below = { λ s. s.below };
 
-    fn length(&self) -> u32 {
-        self.below.length()
+    ghost layered = { λ s. floored s.floor };
+
+    ghost weight_position = { λ _ i. i };
+
+    ghost rate_below = { λ s m i. at_least s.floor (m.rate i) };
+
+    ghost made = { λ _ _. refl };
+
+    fn below(&self) -> &P {
+        &self.below
     }
 
-    fn day(&self, i: Position) -> Result<Date, Fault> {
-        self.below.day(i)
+    fn weight_position(&self, i: Position) -> Position {
+        i
     }
 
-    fn weight(&self, i: Position) -> Result<Weight, Fault> {
-        if !is_within(i, self.below.length()) {
-            return Err(outside(i));
-        }
-        lift(self.below.weight(i))
-    }
-
-    fn rate(&self, i: Position) -> Result<ObservedRate, Fault> {
-        if !is_within(i, self.below.length()) {
-            return Err(outside(i));
-        }
-        match self.below.rate(i) {
-            Ok(o) if o.rate.ticks() < self.floor.ticks() => Ok(ObservedRate {
-                rate: self.floor,
-                observed: o.observed,
-            }),
-            answer => lift(answer),
-        }
+    fn rate_below(&self, i: Position) -> Result<ObservedRate, Fault> {
+        self.below.rate(i).map(|o| ObservedRate {
+            rate: self.floor.max(o.rate),
+            ..o
+        })
     }
 }

@@ -1,15 +1,11 @@
-ghost use Rattle.std.specs.Prelude.{◌≡◌, pos, ◌-ℤ◌};
+ghost use Rattle.std.specs.Prelude.{◌≡◌, refl, pos, ◌-ℤ◌};
 ghost use Rattle.pile.specs.Layers.{lagged};
-ghost use Rattle.pile.specs.Kept.{over_lawful};
 
-use crate::fault::{lift, outside};
+use crate::layer::Layer;
 use crate::observations::{Observations, ObservedRate};
 use crate::position::before;
-use quantity::date::Date;
 use quantity::fault::Fault;
 use quantity::position::{Offset, Position};
-use quantity::weight::Weight;
-use schedule::position::is_within;
 
 // Rate and observed date come from `lag` positions earlier.
 #[derive(Drop)]
@@ -27,34 +23,28 @@ impl<P> Lag<P> {
     }
 }
 
-impl<P: Observations> Observations for Lag<P> {
-    ghost meaning = { λ s. lagged s.lag.count (P.Observations.meaning s.below) };
+impl<P: Observations> Layer for Lag<P> {
+    type Below = P;
 
-    ghost lawful = { λ s.
-        let m = P.Observations.meaning s.below in
-        over_lawful (λ i. i) (λ i. m.rate (i -ℤ pos s.lag.count)) m (P.Observations.lawful s.below) };
+    ghost below = { λ s. s.below };
 
-    fn length(&self) -> u32 {
-        self.below.length()
+    ghost layered = { λ s. lagged s.lag.count };
+
+    ghost weight_position = { λ _ i. i };
+
+    ghost rate_below = { λ s m i. m.rate (i -ℤ pos s.lag.count) };
+
+    ghost made = { λ _ _. refl };
+
+    fn below(&self) -> &P {
+        &self.below
     }
 
-    fn day(&self, i: Position) -> Result<Date, Fault> {
-        self.below.day(i)
+    fn weight_position(&self, i: Position) -> Position {
+        i
     }
 
-    fn weight(&self, i: Position) -> Result<Weight, Fault> {
-        let n = self.below.length();
-        if !is_within(i, n) {
-            return Err(outside(i));
-        }
-        lift(self.below.weight(i))
-    }
-
-    fn rate(&self, i: Position) -> Result<ObservedRate, Fault> {
-        let n = self.below.length();
-        if !is_within(i, n) {
-            return Err(outside(i));
-        }
-        lift(self.below.rate(before(i, n, self.lag)))
+    fn rate_below(&self, i: Position) -> Result<ObservedRate, Fault> {
+        self.below.rate(before(i, self.lag))
     }
 }

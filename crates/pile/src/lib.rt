@@ -5,6 +5,7 @@ pub mod direct;
 pub mod fault;
 pub mod floor;
 pub mod lag;
+mod layer;
 pub mod lockout;
 pub mod observations;
 mod position;

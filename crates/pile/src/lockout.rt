@@ -1,16 +1,12 @@
-ghost use Rattle.std.specs.Prelude.{◌≡◌, ◌-◌, pos};
-ghost use Rattle.pile.specs.Layers.{locked};
+ghost use Rattle.std.specs.Prelude.{◌≡◌, ◌-◌, refl, pos};
 ghost use Rattle.std.specs.Int.{int_min};
-ghost use Rattle.pile.specs.Kept.{over_lawful};
+ghost use Rattle.pile.specs.Layers.{locked};
 
-use crate::fault::{lift, outside};
+use crate::layer::Layer;
 use crate::observations::{Observations, ObservedRate};
 use crate::position::unlocked;
-use quantity::date::Date;
 use quantity::fault::Fault;
 use quantity::position::{Offset, Position};
-use quantity::weight::Weight;
-use schedule::position::is_within;
 
 // Rate and observed date come from no later than `days` positions before the last one.
 #[derive(Drop)]
@@ -28,34 +24,28 @@ impl<P> Lockout<P> {
     }
 }
 
-impl<P: Observations> Observations for Lockout<P> {
-    ghost meaning = { λ s. locked s.days.count (P.Observations.meaning s.below) };
+impl<P: Observations> Layer for Lockout<P> {
+    type Below = P;
 
-    ghost lawful = { λ s.
-        let m = P.Observations.meaning s.below in
-        over_lawful (λ i. i) (λ i. m.rate (int_min i (pos (m.n - 1 - s.days.count)))) m (P.Observations.lawful s.below) };
+    ghost below = { λ s. s.below };
 
-    fn length(&self) -> u32 {
-        self.below.length()
+    ghost layered = { λ s. locked s.days.count };
+
+    ghost weight_position = { λ _ i. i };
+
+    ghost rate_below = { λ s m i. m.rate (int_min i (pos (m.n - 1 - s.days.count))) };
+
+    ghost made = { λ _ _. refl };
+
+    fn below(&self) -> &P {
+        &self.below
     }
 
-    fn day(&self, i: Position) -> Result<Date, Fault> {
-        self.below.day(i)
+    fn weight_position(&self, i: Position) -> Position {
+        i
     }
 
-    fn weight(&self, i: Position) -> Result<Weight, Fault> {
-        let n = self.below.length();
-        if !is_within(i, n) {
-            return Err(outside(i));
-        }
-        lift(self.below.weight(i))
-    }
-
-    fn rate(&self, i: Position) -> Result<ObservedRate, Fault> {
-        let n = self.below.length();
-        if !is_within(i, n) {
-            return Err(outside(i));
-        }
-        lift(self.below.rate(unlocked(i, n, self.days)))
+    fn rate_below(&self, i: Position) -> Result<ObservedRate, Fault> {
+        self.below.rate(unlocked(i, self.below.length(), self.days))
     }
 }

@@ -8,7 +8,7 @@ use quantity::rate::Rate;
 use quantity::weight::Weight;
 
 // A rate, and the date on which it was observed.
-#[derive(Clone, Copy)]
+#[derive(Clone, Copy, Debug, PartialEq, Eq)]
 pub struct ObservedRate {
     pub rate: Rate,
     pub observed: Date,

@@ -1,18 +1,14 @@
-ghost use Rattle.std.specs.Prelude.{◌≡◌, ◌-◌, ◌≤◌, true, pos, ◌-ℤ◌};
+ghost use Rattle.std.specs.Prelude.{◌≡◌, ◌-◌, ◌≤◌, pos, negsuc, ◌-ℤ◌, ◌≤ℤ◌};
 ghost use Rattle.std.specs.Int.{int_min};
-ghost use Rattle.schedule.specs.Positions.{within};
 
 use quantity::position::{Offset, Position};
 
-// The position so many good days before one of a pile's.
-pub(crate) fn before(i: Position, n: u32, by: Offset) -> Position
-    requires { within n i.value ≡ true }
+// The position so many good days before one that a pile has.
+pub(crate) fn before(i: Position, by: Offset) -> Position
+    requires { negsuc 63 ≤ℤ i.value }
     ensures { result.value ≡ i.value -ℤ pos by.count }
 {
-    match i.earlier(by) {
-        Some(at) => at,
-        None => unreachable(),
-    }
+    i.earlier(by).unwrap()
 }
 
 // The position whose rate stands for that of i: no later than the last one before a lockout of so many days.
