@@ -4,7 +4,8 @@ use Rattle.std.proofs.Common.{◌≡◌, ℕ, ◌+◌, ◌*◌, ◌^◌, ◌<◌
 use borrow.Author.Differences.{up, down, product_is}
 use native.Mathlib.Nat.{one-le-pow}
 use Rattle.std.proofs.lemmas.Int.{ints, by_lt_z}
-use Rattle.std.proofs.lemmas.Bool.Decides.{nat_tests}
+use Rattle.std.proofs.lemmas.List.Sums.{sum_by-cons}
+use Rattle.std.proofs.lemmas.Bool.Decides.{Decides-int_eq}
 use Rattle.quantity.proofs.Bases.{base_most, scale_least}
 use Rattle.quantity.specs.Benchmarks.{days_in, scale}
 use Rattle.quantity.specs.declared.year.YearBase.{YearBase}
@@ -25,36 +26,32 @@ parts s n m =
     let d : down (s *ℤ pos n) * m ≡ (down s * n) * m = ap (λ t. t * m) (omega (arith, f)) in
     (omega (arith, product_is (s *ℤ pos n) (pos m)), omega (arith, product_is (s *ℤ pos n) (pos m)))
 
--- (lo − U) × P ≤ (x − P) × U, times N × W
+-- (b − U) × P − (x − P) × U = b × P − U × x, times N × W
+cross_is : (N W P : ℕ) (b x : ℤ)
+    → up (((b -ℤ pos unit) *ℤ pos N) *ℤ pos (P * W)) + down (((x -ℤ pos P) *ℤ pos (N * 10 ^ 7)) *ℤ pos (10 ^ 5 * W)) + (down b * P + unit * up x) * (N * W)
+    ≡ down (((b -ℤ pos unit) *ℤ pos N) *ℤ pos (P * W)) + up (((x -ℤ pos P) *ℤ pos (N * 10 ^ 7)) *ℤ pos (10 ^ 5 * W)) + (up b * P + unit * down x) * (N * W)
+cross_is N W P b x =
+    let s = b -ℤ pos unit in
+    let t = x -ℤ pos P in
+    let e : up s + down b + unit ≡ down s + up b = omega (arith, ints) in
+    let f : up t + down x + P ≡ down t + up x = omega (arith, ints) in
+    let e' : (up s + down b + unit) * (N * (P * W)) ≡ (down s + up b) * (N * (P * W)) = ap (λ n. n * (N * (P * W))) e in
+    let f' : (up t + down x + P) * (N * W) ≡ (down t + up x) * (N * W) = ap (λ n. n * (N * W)) f in
+    omega (arith, parts s N (P * W), parts t (N * 10 ^ 7) (10 ^ 5 * W))
+
 low_cross : (N W P : ℕ) (lo x : ℤ) → (lo *ℤ pos P) ≤ℤ (pos unit *ℤ x)
     → (((lo -ℤ pos unit) *ℤ pos N) *ℤ pos (P * W)) ≤ℤ (((x -ℤ pos P) *ℤ pos (N * 10 ^ 7)) *ℤ pos (10 ^ 5 * W))
 low_cross N W P lo x h =
-    let s = lo -ℤ pos unit in
-    let t = x -ℤ pos P in
-    let a : up s + down lo + unit ≡ down s + up lo = omega (arith, ints) in
-    let b : up t + down x + P ≡ down t + up x = omega (arith, ints) in
     let k : up lo * P + unit * down x ≤ down lo * P + unit * up x = omega (arith, ints) in
-    let a' : (up s + down lo + unit) * (N * (P * W)) ≡ (down s + up lo) * (N * (P * W)) = ap (λ n. n * (N * (P * W))) a in
-    let b' : (up t + down x + P) * (N * W) ≡ (down t + up x) * (N * W) = ap (λ n. n * (N * W)) b in
     let k' : (up lo * P + unit * down x) * (N * W) ≤ (down lo * P + unit * up x) * (N * W) = mul-le-mul_right (N * W) k in
-    let l = parts s N (P * W) in
-    let r = parts t (N * 10 ^ 7) (10 ^ 5 * W) in
-    omega (arith, ints)
+    omega (arith, ints, cross_is N W P lo x)
 
 high_cross : (N W P : ℕ) (hi x : ℤ) → (pos unit *ℤ x) ≤ℤ (hi *ℤ pos P)
     → (((x -ℤ pos P) *ℤ pos (N * 10 ^ 7)) *ℤ pos (10 ^ 5 * W)) ≤ℤ (((hi -ℤ pos unit) *ℤ pos N) *ℤ pos (P * W))
 high_cross N W P hi x h =
-    let s = hi -ℤ pos unit in
-    let t = x -ℤ pos P in
-    let a : up s + down hi + unit ≡ down s + up hi = omega (arith, ints) in
-    let b : up t + down x + P ≡ down t + up x = omega (arith, ints) in
-    let k : unit * up x + down hi * P ≤ unit * down x + up hi * P = omega (arith, ints) in
-    let a' : (up s + down hi + unit) * (N * (P * W)) ≡ (down s + up hi) * (N * (P * W)) = ap (λ n. n * (N * (P * W))) a in
-    let b' : (up t + down x + P) * (N * W) ≡ (down t + up x) * (N * W) = ap (λ n. n * (N * W)) b in
-    let k' : (unit * up x + down hi * P) * (N * W) ≤ (unit * down x + up hi * P) * (N * W) = mul-le-mul_right (N * W) k in
-    let l = parts s N (P * W) in
-    let r = parts t (N * 10 ^ 7) (10 ^ 5 * W) in
-    omega (arith, ints)
+    let k : down hi * P + unit * up x ≤ up hi * P + unit * down x = omega (arith, ints) in
+    let k' : (down hi * P + unit * up x) * (N * W) ≤ (up hi * P + unit * down x) * (N * W) = mul-le-mul_right (N * W) k in
+    omega (arith, ints, cross_is N W P hi x)
 
 -- 3k units make less than one place of rate
 next_cross : (N W k : ℕ) (lo hi : ℤ) → N ≤ 366 → 0 < W → k ≤ W → hi ≤ℤ (lo +ℤ pos (3 * k))
@@ -73,11 +70,11 @@ next_cross N W k lo hi few some count h =
 
 pub weight_count : (os : List Observation) → length os ≤ weight_of os
 weight_count [] = omega arith
-weight_count (o ∷ os) = omega (arith, weight_count os, o.weight.least)
+weight_count (o ∷ os) = omega (arith, sum_by-cons (λ (p : Observation). p.weight.days) o os, weight_count os, o.weight.least)
 
 -- two integers that pass the test of equality
 pub same_is : (a b : ℤ) → same a b ≡ true → a ≡ b
-same_is a b e = grind (arith, ints, nat_tests)
+same_is a b = (Decides-int_eq a b).0
 
 module _ (base : YearBase) (os : List Observation) (factor : ℤ) (b : Bounds) (some : 0 < weight_of os) (enc : Encloses base os factor b) (nar : Narrow os b) where
   places : 0 < 10 ^ 5 * weight_of os

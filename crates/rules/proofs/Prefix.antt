@@ -1,8 +1,9 @@
 -- A run one observation longer, and bounds that stay in reach.
 -- Assumes nothing.
-use Rattle.std.proofs.Common.{◌≡◌, ℕ, suc, ◌+◌, ◌*◌, ◌^◌, ◌<◌, ◌≤◌, true, List, [], ◌∷◌, ◌++◌, length, get_or, take, drop, ℤ, pos, ◌*ℤ◌, ◌≤ℤ◌, sym, ap, ◌∙◌, le_of_mul-le-mul_right, arith, take-append-drop, length-take}
+use Rattle.std.proofs.Common.{◌≡◌, ℕ, suc, ◌+◌, ◌*◌, ◌^◌, ◌<◌, ◌≤◌, true, List, [], ◌∷◌, ◌++◌, length, get_or, take, ℤ, pos, ◌*ℤ◌, ◌≤ℤ◌, sym, ap, ◌∙◌, le_of_mul-le-mul_right, arith, length-take}
 use borrow.Author.Differences.{up, down}
 use Rattle.std.proofs.lemmas.List.{take_more}
+use Rattle.std.proofs.lemmas.List.Sums.{sum_by_more}
 use native.Mathlib.Nat.{one-le-pow}
 use Rattle.std.proofs.lemmas.Int.{ints}
 use Rattle.quantity.proofs.Bases.{scale_least}
@@ -10,7 +11,7 @@ use Rattle.quantity.specs.Benchmarks.{scale}
 use Rattle.quantity.specs.declared.year.YearBase.{YearBase}
 use Rattle.rules.specs.Accrual.{weight_of, carried, bounds_of, at_one, Encloses, Narrow, Moderate}
 use Rattle.rules.specs.Reach.{unit, is_in_reach}
-use Rattle.rules.proofs.Reach.{InReach, is_in_reach_lem}
+use Rattle.rules.proofs.Reach.{in_reach}
 use Rattle.rules.specs.declared.bounds.Bounds.{Bounds}
 use Rattle.rules.specs.declared.observation.Observation.{Observation}
 use Rattle.rules.proofs.Exact.{weight_count}
@@ -29,23 +30,13 @@ carried_next step s os i o h e =
     sym (ap (carried step 0 s) pushed ∙ carried-push step 0 s (take i os) o ∙ ap (λ n. step n (carried step 0 s (take i os)) o) count)
 
 -- the bounds after one step more
-pub bounds_next : (step : ℕ → Bounds → Observation → Bounds) (os : List Observation) (i count : ℕ) (o : Observation) (before after : Bounds) → i < length os → o ≡ get_or os i o → count ≡ i
-    → before ≡ bounds_of step (take i os) → after ≡ step count before o → after ≡ bounds_of step (take (i + 1) os)
-bounds_next step os i count o before after h e c b s =
-    s ∙ ap (λ n. step n before o) c ∙ ap (λ t. step i t o) b ∙ carried_next step at_one os i o h e
-
-weight_append : (os ps : List Observation) → weight_of (os ++ ps) ≡ weight_of os + weight_of ps
-weight_append [] ps = omega arith
-weight_append (o ∷ os) ps = omega (arith, weight_append os ps)
+pub bounds_next : (step : ℕ → Bounds → Observation → Bounds) (os : List Observation) (i : ℕ) (o : Observation) (before after : Bounds) → i < length os → o ≡ get_or os i o
+    → before ≡ bounds_of step (take i os) → after ≡ step i before o → after ≡ bounds_of step (take (i + 1) os)
+bounds_next step os i o before after h e b s = s ∙ ap (λ t. step i t o) b ∙ carried_next step at_one os i o h e
 
 -- one observation more
 pub weight_next : (os : List Observation) (i : ℕ) (o : Observation) → i < length os → o ≡ get_or os i o → weight_of (take (i + 1) os) ≡ weight_of (take i os) + o.weight.days
-weight_next os i o h e =
-    let pushed : take (i + 1) os ≡ take i os ++ (o ∷ []) = take_more os i o h ∙ ap (λ y. take i os ++ (y ∷ [])) (sym e) in
-    omega (arith, ap weight_of pushed, weight_append (take i os) (o ∷ []))
-
-pub weight_take : (i : ℕ) (os : List Observation) → weight_of (take i os) ≤ weight_of os
-weight_take i os = omega (arith, weight_append (take i os) (drop i os), ap weight_of (take-append-drop i os))
+weight_next os i o h e = omega (arith, sum_by_more (λ (p : Observation). p.weight.days) os i o h, ap (λ (p : Observation). p.weight.days) e)
 
 -- the bounds of a factor between one half and two
 low_most : (P : ℕ) (lo x : ℤ) → 0 < P → (lo *ℤ pos P) ≤ℤ (pos unit *ℤ x) → x ≤ℤ pos (2 * P) → up lo ≤ down lo + 2 * unit
@@ -60,17 +51,11 @@ high_least P hi x p h d =
     let b : P + 2 * down x ≤ 2 * up x = omega (arith, ints) in
     le_of_mul-le-mul_right {k = P} (omega arith) p
 
-in_reach : (base : YearBase) (os : List Observation) (factor : ℤ) (b : Bounds) → weight_of os ≤ 400 → Encloses base os factor b → Narrow os b → Moderate base os factor
-    → InReach b.lo × InReach b.hi
-in_reach base os factor b few enc nar half =
+pub tests_in_reach : (base : YearBase) (os : List Observation) (factor : ℤ) (b : Bounds) → weight_of os ≤ 400 → Encloses base os factor b → Narrow os b → Moderate base os factor
+    → (is_in_reach b.lo ≡ true) × (is_in_reach b.hi ≡ true)
+tests_in_reach base os factor b few enc nar half =
     let p = one-le-pow (length os) (scale base) (omega (arith, scale_least base)) in
     let l = low_most (scale base ^ length os) b.lo factor p enc.above half.double in
     let h = high_least (scale base ^ length os) b.hi factor p enc.below half.half in
     let n = weight_count os in
-    (record { least = omega (arith, ints, nar); most = omega (arith, ints) }, record { least = omega (arith, ints); most = omega (arith, ints, nar) })
-
-pub tests_in_reach : (base : YearBase) (os : List Observation) (factor : ℤ) (b : Bounds) → weight_of os ≤ 400 → Encloses base os factor b → Narrow os b → Moderate base os factor
-    → (is_in_reach b.lo ≡ true) × (is_in_reach b.hi ≡ true)
-tests_in_reach base os factor b few enc nar half =
-    let r = in_reach base os factor b few enc nar half in
-    (is_in_reach_lem _ r.0, is_in_reach_lem _ r.1)
+    (in_reach b.lo (omega (arith, ints, nar)) (omega (arith, ints)), in_reach b.hi (omega (arith, ints)) (omega (arith, ints, nar)))

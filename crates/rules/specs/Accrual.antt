@@ -1,6 +1,6 @@
 -- What an accrual rule gives over a list of observations, the oldest first.
 -- Assumes nothing.
-use Rattle.std.specs.Prelude.{ℕ, suc, ◌+◌, ◌*◌, ◌^◌, List, [], ◌∷◌, length, ℤ, pos, ◌+ℤ◌, ◌*ℤ◌, ◌≤ℤ◌}
+use Rattle.std.specs.Prelude.{ℕ, suc, ◌*◌, ◌^◌, ◌≤◌, List, [], ◌∷◌, length, ℤ, pos, ◌+ℤ◌, ◌*ℤ◌, ◌≤ℤ◌, sum_by}
 use Rattle.quantity.specs.Benchmarks.{scale}
 use Rattle.quantity.specs.declared.year.YearBase.{YearBase}
 use Rattle.rules.specs.Reach.{unit}
@@ -14,8 +14,7 @@ gain o = o.rate.ticks *ℤ pos o.weight.days
 
 -- W: the sum of the weights
 abbrev pub weight_of : List Observation → ℕ
-weight_of [] = 0
-weight_of (o ∷ os) = o.weight.days + weight_of os
+weight_of os = sum_by (λ o. o.weight.days) os
 
 -- a quantity that is carried from each observation to the next; `step` is told how many came before
 abbrev pub carried : {S : Type 0} → (ℕ → S → Observation → S) → ℕ → S → List Observation → S
@@ -33,25 +32,26 @@ at_one = record { lo = pos unit; hi = pos unit }
 abbrev pub bounds_of : (ℕ → Bounds → Observation → Bounds) → List Observation → Bounds
 bounds_of step os = carried step 0 at_one os
 
--- Compounded: the factor is multiplied by 1 + rw / B; each bound adds its own part, lo × rw / B rounded down and hi × rw / B rounded up.
+-- the bounds after an observation, which adds the part rw / B of a basis: of its lower bound rounded down, of its upper one rounded up
+abbrev pub raised : YearBase → Bounds → (basis : Bounds) → Observation → Bounds
+raised base b basis o = record {
+  lo = b.lo +ℤ floor_div (basis.lo *ℤ gain o) (scale base);
+  hi = b.hi +ℤ ceil_div (basis.hi *ℤ gain o) (scale base);
+}
+
+-- Compounded: the factor is multiplied by 1 + rw / B; each bound adds its own part.
 abbrev pub compounded_factor : YearBase → ℕ → ℤ → Observation → ℤ
 compounded_factor base k x o = x *ℤ (pos (scale base) +ℤ gain o)
 
 abbrev pub compounded_bounds : YearBase → ℕ → Bounds → Observation → Bounds
-compounded_bounds base k b o = record {
-  lo = b.lo +ℤ floor_div (b.lo *ℤ gain o) (scale base);
-  hi = b.hi +ℤ ceil_div (b.hi *ℤ gain o) (scale base);
-}
+compounded_bounds base k b o = raised base b b o
 
 -- Simple: rw / B is added to the factor; each bound adds that part of U.
 abbrev pub simple_factor : YearBase → ℕ → ℤ → Observation → ℤ
 simple_factor base k x o = (x *ℤ pos (scale base)) +ℤ (gain o *ℤ pos (scale base ^ k))
 
 abbrev pub simple_bounds : YearBase → ℕ → Bounds → Observation → Bounds
-simple_bounds base k b o = record {
-  lo = b.lo +ℤ floor_div (pos unit *ℤ gain o) (scale base);
-  hi = b.hi +ℤ ceil_div (pos unit *ℤ gain o) (scale base);
-}
+simple_bounds base k b o = raised base b at_one o
 
 -- the bounds enclose the exact factor, ends included: lo × B^k ≤ U × X ≤ hi × B^k
 pub record Encloses (base : YearBase) (os : List Observation) (factor : ℤ) (b : Bounds) : Type 0 where
@@ -66,3 +66,9 @@ Narrow os b = b.hi ≤ℤ (b.lo +ℤ pos (3 * length os))
 pub record Moderate (base : YearBase) (os : List Observation) (factor : ℤ) : Type 0 where
   pub half : pos (scale base ^ length os) ≤ℤ (pos 2 *ℤ factor)
   pub double : factor ≤ℤ pos (2 * scale base ^ length os)
+
+-- the three laws of a rule, for observations whose weights sum to at most 400
+pub record Laws (base : YearBase) (grown : ℕ → ℤ → Observation → ℤ) (widened : ℕ → Bounds → Observation → Bounds) : Type 0 where
+  pub encloses : (os : List Observation) → weight_of os ≤ 400 → Encloses base os (factor_of grown os) (bounds_of widened os)
+  pub narrow : (os : List Observation) → weight_of os ≤ 400 → Narrow os (bounds_of widened os)
+  pub moderate : (os : List Observation) → weight_of os ≤ 400 → Moderate base os (factor_of grown os)

@@ -1,6 +1,6 @@
 -- The rule that a coupon's terms name.
 -- Assumes nothing.
-use Rattle.std.specs.Prelude.{ℕ, ℤ}
+use Rattle.std.specs.Prelude.{ℕ, List, ℤ, codes}
 use Rattle.quantity.specs.declared.year.YearBase.{YearBase}
 use Rattle.rules.specs.Accrual.{compounded_factor, compounded_bounds, simple_factor, simple_bounds}
 use Rattle.rules.specs.declared.rule.Rule.{Rule}
@@ -15,3 +15,8 @@ chosen_factor Simple = simple_factor
 abbrev pub chosen_bounds : Rule → YearBase → ℕ → Bounds → Observation → Bounds
 chosen_bounds Compounded = compounded_bounds
 chosen_bounds Simple = simple_bounds
+
+-- the word of a rule
+abbrev pub rule_word : Rule → List ℕ
+rule_word Compounded = codes "compounded"
+rule_word Simple = codes "simple"

@@ -1,6 +1,7 @@
 -- The rate and the amount that a coupon reports, and what they say of the exact rate.
 -- Assumes nothing.
-use Rattle.std.specs.Prelude.{◌≡◌, ℕ, ◌*◌, ◌^◌, Bool, true, ◌&&◌, ◌⊎◌, List, length, ℤ, pos, negsuc, ◌+ℤ◌, ◌-ℤ◌, ◌*ℤ◌, ◌≤ℤ◌, MatchOption, int_le}
+use Rattle.std.specs.Prelude.{◌≡◌, ℕ, ◌*◌, ◌^◌, Bool, true, ◌⊎◌, List, length, ℤ, pos, negsuc, ◌+ℤ◌, ◌-ℤ◌, ◌*ℤ◌, ◌≤ℤ◌, MatchOption}
+use Rattle.std.specs.Ordering.{int_eq}
 use Rattle.quantity.specs.Benchmarks.{days_in, scale}
 use Rattle.quantity.specs.declared.year.YearBase.{YearBase}
 use Rattle.rules.specs.Accrual.{weight_of, factor_of, bounds_of, Encloses, Narrow, Moderate}
@@ -27,7 +28,7 @@ abbrev pub exact_rate_of : YearBase → List Observation → ℤ → Fraction
 exact_rate_of base os factor = exact_rate base (weight_of os) (scale base ^ length os) factor
 
 abbrev pub same : ℤ → ℤ → Bool
-same a b = int_le a b && int_le b a
+same = int_eq
 
 -- the lower bound gives the rate, and it is settled exactly where the upper bound gives the same
 pub record Reports (base : YearBase) (W : ℕ) (b : Bounds) (p : Report) : Type 0 where

@@ -1,6 +1,6 @@
 -- The numbers that the bounds of a factor stay between, so that every product of a step fits 64 bits.
 -- Assumes nothing.
-use Rattle.std.specs.Prelude.{ℕ, ◌+◌, ◌*◌, ◌^◌, Bool, ◌&&◌, ℤ, pos, negsuc, ◌≤ℤ◌, int_le}
+use Rattle.std.specs.Prelude.{ℕ, ◌+◌, ◌*◌, ◌^◌, Bool, ◌&&◌, ℤ, pos, int_le}
 
 -- U: one, in units of 10^-12
 abbrev pub unit : ℕ
@@ -12,8 +12,3 @@ reach = 2 * unit + 1200
 
 abbrev pub is_in_reach : ℤ → Bool
 is_in_reach bound = int_le (pos 0) bound && int_le bound (pos reach)
-
--- rate times weight is at most 250,000 × 15 either way
-pub record SmallGain (gain : ℤ) : Type 0 where
-  pub least : negsuc 3749999 ≤ℤ gain
-  pub most : gain ≤ℤ pos 3750000

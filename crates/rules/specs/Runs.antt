@@ -1,13 +1,14 @@
 -- From one step to a list of observations, for any rule: the three laws.
 -- Assumes nothing.
-use Rattle.std.specs.Prelude.{◌≡◌, ℕ, suc, ◌+◌, ◌*◌, ◌^◌, ◌≤◌, List, [], ◌∷◌, length, ℤ, pos, ◌*ℤ◌, ◌≤ℤ◌, refl}
+use Rattle.std.specs.Prelude.{◌≡◌, ℕ, suc, ◌+◌, ◌*◌, ◌^◌, ◌≤◌, List, [], ◌∷◌, length, ℤ, pos, refl}
 use Rattle.std.proofs.Common.{subst, pow-suc, arith}
 use Rattle.std.proofs.Math.Nat.{pow-zero}
 use Rattle.std.proofs.lemmas.Int.{ints}
+use Rattle.std.proofs.lemmas.List.Sums.{sum_by-cons}
 use Rattle.quantity.proofs.Bases.{scale_least}
 use Rattle.quantity.specs.Benchmarks.{scale}
 use Rattle.quantity.specs.declared.year.YearBase.{YearBase}
-use Rattle.rules.specs.Accrual.{weight_of, carried, factor_of, bounds_of, at_one, Encloses, Narrow, Moderate}
+use Rattle.rules.specs.Accrual.{weight_of, carried, factor_of, bounds_of, at_one, Encloses, Narrow, Moderate, Laws}
 use Rattle.rules.specs.Reach.{unit}
 use Rattle.rules.specs.declared.bounds.Bounds.{Bounds}
 use Rattle.rules.specs.declared.observation.Observation.{Observation}
@@ -44,18 +45,12 @@ module _ (base : YearBase) (grown : ℕ → ℤ → Observation → ℤ) (widene
       let wv : W ≡ V = omega arith in
       subst (λ (j : ℕ). Good base j V factor b) kn (subst (λ (u : ℕ). Good base k u factor b) wv s)
   good_run (o ∷ os) k W n V factor b ne ve few s =
+      let sum = sum_by-cons (λ (p : Observation). p.weight.days) o os in
       good_run os (suc k) (W + o.weight.days) n V (grown k factor o) (widened k b o) (omega arith) (omega arith) few
       (rw (pow-suc (scale base) k) (keeps k W factor b o (omega arith) s))
 
   pub good : (os : List Observation) → weight_of os ≤ 400 → Good base (length os) (weight_of os) (factor_of grown os) (bounds_of widened os)
   good os few = good_run os 0 0 (length os) (weight_of os) (pos 1) at_one (omega arith) (omega arith) few (start base)
-
--- the orders of integers that naturals give
-low_law : (lo factor : ℤ) (l x P : ℕ) → lo ≡ pos l → factor ≡ pos x → l * P ≤ unit * x → (lo *ℤ pos P) ≤ℤ (pos unit *ℤ factor)
-low_law lo factor l x P e f h = rw (e, f) (omega (arith, ints))
-
-high_law : (hi factor : ℤ) (h x P : ℕ) → hi ≡ pos h → factor ≡ pos x → unit * x ≤ h * P → (pos unit *ℤ factor) ≤ℤ (hi *ℤ pos P)
-high_law hi factor h x P e f le = rw (e, f) (omega (arith, ints))
 
 module _ (base : YearBase) (grown : ℕ → ℤ → Observation → ℤ) (widened : ℕ → Bounds → Observation → Bounds) (keeps : Keeps base grown widened) (os : List Observation) (few : weight_of os ≤ 400) where
   there : Good base (length os) (weight_of os) (factor_of grown os) (bounds_of widened os)
@@ -66,8 +61,8 @@ module _ (base : YearBase) (grown : ℕ → ℤ → Observation → ℤ) (widene
 
   pub encloses_of : Encloses base os (factor_of grown os) (bounds_of widened os)
   encloses_of = record {
-    above = low_law _ _ there.l there.x (scale base ^ length os) there.lo_is there.factor_is there.held.low;
-    below = high_law _ _ (there.l + there.d) there.x (scale base ^ length os) there.hi_is there.factor_is there.held.high;
+    above = rw (there.lo_is, there.factor_is) (omega (arith, ints, there.held.low));
+    below = rw (there.hi_is, there.factor_is) (omega (arith, ints, there.held.high));
   }
 
   pub narrow_of : Narrow os (bounds_of widened os)
@@ -80,3 +75,10 @@ module _ (base : YearBase) (grown : ℕ → ℤ → Observation → ℤ) (widene
       let h : scale base ^ length os ≤ 2 * there.x = half_held (scale base) (scale base ^ length os) (length os) there.M there.x there.l there.d (omega (arith, scale_least base)) wide there.held in
       let d : there.x ≤ 2 * scale base ^ length os = double_held (scale base) (scale base ^ length os) (length os) there.M there.x there.l there.d (omega (arith, scale_least base)) wide there.held in
       record { half = rw there.factor_is (omega (arith, ints)); double = rw there.factor_is (omega (arith, ints)) }
+
+pub laws_of : (base : YearBase) (grown : ℕ → ℤ → Observation → ℤ) (widened : ℕ → Bounds → Observation → Bounds) → Keeps base grown widened → Laws base grown widened
+laws_of base grown widened keeps = record {
+  encloses = encloses_of base grown widened keeps;
+  narrow = narrow_of base grown widened keeps;
+  moderate = moderate_of base grown widened keeps;
+}

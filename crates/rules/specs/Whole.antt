@@ -40,6 +40,17 @@ pub natural : (s : ℤ) (B : ℕ) → down s * B < up s * B + B → (m : ℕ) ×
 natural (pos n) B h = (n, refl)
 natural (negsuc n) B h = absurd (omega arith)
 
+-- x + q is a natural m, and how far q × B is from z, where xB + z = n and q × B > z − B
+whole_of : (z q : ℤ) (B x n : ℕ) → pos (x * B) +ℤ z ≡ pos n → up z + down q * B < up q * B + down z + B
+    → (m : ℕ) × (pos x +ℤ q ≡ pos m) × (m * B + up z + down q * B ≡ n + down z + up q * B)
+whole_of z q B x n e o =
+    let whole : x * B + up z ≡ n + down z = omega (arith, ints) in
+    let s = sum_times x q B in
+    let nat : (m : ℕ) × (pos x +ℤ q ≡ pos m) = natural (pos x +ℤ q) B (omega arith) in
+    let mu : up (pos x +ℤ q) * B ≡ nat.0 * B = ap (λ t. up t * B) nat.1 in
+    let md : down (pos x +ℤ q) * B ≡ 0 * B = ap (λ t. down t * B) nat.1 in
+    (nat.0, nat.1, omega arith)
+
 -- x + ⌊z / B⌋ is the natural ⌊n / B⌋, where xB + z = n
 pub record Floor (z : ℤ) (B x n : ℕ) : Type 0 where
   pub m : ℕ
@@ -49,15 +60,9 @@ pub record Floor (z : ℤ) (B x n : ℕ) : Type 0 where
 
 pub floor_of : (z : ℤ) (B x n : ℕ) → 0 < B → pos (x * B) +ℤ z ≡ pos n → Floor z B x n
 floor_of z B x n p e =
-    let q = floor_div z B in
-    let whole : x * B + up z ≡ n + down z = omega (arith, ints) in
-    let s = sum_times x q B in
-    let u = floor_under z B p in
     let o = floor_over z B p in
-    let nat : (m : ℕ) × (pos x +ℤ q ≡ pos m) = natural (pos x +ℤ q) B (omega arith) in
-    let mu : up (pos x +ℤ q) * B ≡ nat.0 * B = ap (λ t. up t * B) nat.1 in
-    let md : down (pos x +ℤ q) * B ≡ 0 * B = ap (λ t. down t * B) nat.1 in
-    record { m = nat.0; is = nat.1; under = omega arith; over = omega arith }
+    let t = whole_of z (floor_div z B) B x n e o in
+    record { m = t.0; is = t.1; under = omega (arith, t.2, floor_under z B p); over = omega (arith, t.2, o) }
 
 -- likewise the ceiling
 pub record Ceiling (z : ℤ) (B x n : ℕ) : Type 0 where
@@ -68,12 +73,6 @@ pub record Ceiling (z : ℤ) (B x n : ℕ) : Type 0 where
 
 pub ceil_of : (z : ℤ) (B x n : ℕ) → 0 < B → pos (x * B) +ℤ z ≡ pos n → Ceiling z B x n
 ceil_of z B x n p e =
-    let q = ceil_div z B in
-    let whole : x * B + up z ≡ n + down z = omega (arith, ints) in
-    let s = sum_times x q B in
     let u = ceil_under z B p in
-    let o = ceil_over z B p in
-    let nat : (m : ℕ) × (pos x +ℤ q ≡ pos m) = natural (pos x +ℤ q) B (omega arith) in
-    let mu : up (pos x +ℤ q) * B ≡ nat.0 * B = ap (λ t. up t * B) nat.1 in
-    let md : down (pos x +ℤ q) * B ≡ 0 * B = ap (λ t. down t * B) nat.1 in
-    record { m = nat.0; is = nat.1; under = omega arith; over = omega arith }
+    let t = whole_of z (ceil_div z B) B x n e (omega arith) in
+    record { m = t.0; is = t.1; under = omega (arith, t.2, u); over = omega (arith, t.2, ceil_over z B p) }

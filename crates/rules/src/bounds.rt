@@ -1,4 +1,5 @@
 ghost use Rattle.std.specs.Prelude.{◌≡◌, true, false, ◌&&◌, MatchOption};
+ghost use Rattle.rules.specs.Accrual.{at_one};
 ghost use Rattle.rules.specs.Reach.{is_in_reach};
 
 // One, in units of 10^-12.
@@ -8,14 +9,14 @@ pub const UNIT: i64 = 1_000_000_000_000;
 const REACH: i64 = 2_000_000_001_200;
 
 // A lower and an upper bound of a factor, in units of 10^-12.
-#[derive(Clone, Copy)]
+#[derive(Clone, Copy, Debug, PartialEq, Eq)]
 pub struct Bounds {
     pub lo: i64,
     pub hi: i64,
 }
 
 // Bounds that an observation can follow: each from 0 to twice one and 1,200 units, which no coupon's bounds leave.
-#[derive(Clone, Copy)]
+#[derive(Clone, Copy, Debug, PartialEq, Eq)]
 pub struct ModerateBounds {
     bounds: Bounds,
     ghost low: { is_in_reach bounds.lo ≡ true },
@@ -25,10 +26,19 @@ pub struct ModerateBounds {
 fn is_in_reach(bound: i64) -> bool
     ensures { result ≡ is_in_reach bound }
 {
-    0 <= bound && bound <= REACH
+    (0..=REACH).contains(&bound)
 }
 
 impl ModerateBounds {
+    // The bounds of a factor of exactly one, with which every run begins.
+    pub fn one() -> ModerateBounds
+        ensures { result.bounds ≡ at_one }
+    {
+        ModerateBounds {
+            bounds: Bounds { lo: UNIT, hi: UNIT },
+        }
+    }
+
     // The bounds as moderate ones, or none where one of them is out of reach.
     pub fn new(bounds: Bounds) -> Option<ModerateBounds>
         ensures { MatchOption result ((is_in_reach bounds.lo && is_in_reach bounds.hi) ≡ false) (λ m. m.bounds ≡ bounds) }

@@ -14,43 +14,22 @@ use quantity::reported::ReportedRate;
 use quantity::total::TotalWeight;
 use quantity::year::YearBase;
 
-// A reported rate, settled where both bounds give it.
-#[derive(Clone, Copy)]
+// A reported rate, settled where both bounds give it. The rate stands in either case, so the mark makes no `Option` of it.
+#[derive(Clone, Copy, Debug, PartialEq, Eq)]
 pub struct Report {
     pub rate: ReportedRate,
     pub settled: bool,
 }
 
-// What a bound has above one, times the year base.
-fn excess(base: YearBase, bound: i64) -> i128
-    requires { is_in_reach bound ≡ true }
-    ensures { result ≡ (bound -ℤ pos unit) *ℤ pos (days_in base) }
-{
-    i128::from(bound - UNIT) * i128::from(base.days().number())
-}
-
-// The rate of one bound, in places.
-fn places_of(base: YearBase, weight: TotalWeight, bound: i64) -> i64
-    requires some { 0 < weight.days }
-    requires reach { is_in_reach bound ≡ true }
-    ensures value { result ≡ rate_of base weight.days bound }
-    ensures small { (negsuc 3659999999 ≤ℤ result) × (result ≤ℤ pos 3660000000) }
-{
-    nearest_div(
-        excess(base, bound),
-        100_000 * u64::from(weight.days().number()),
-    ) as i64
-}
-
+// The rate of one bound.
 fn rate_of(base: YearBase, weight: TotalWeight, bound: i64) -> ReportedRate
     requires some { 0 < weight.days }
     requires reach { is_in_reach bound ≡ true }
     ensures { result.places ≡ rate_of base weight.days bound }
 {
-    match ReportedRate::new(places_of(base, weight, bound)) {
-        Some(rate) => rate,
-        None => unreachable(),
-    }
+    let excess = i128::from(bound - UNIT) * i128::from(base.days().number());
+    let places = nearest_div(excess, 100_000 * u64::from(weight.days().number()));
+    ReportedRate::new(places as i64).unwrap()
 }
 
 // The rate that the lower bound gives, settled exactly where the upper bound gives the same; none over no days.
@@ -65,24 +44,8 @@ pub fn reported(base: YearBase, weight: TotalWeight, bounds: ModerateBounds) -> 
     let upper = rate_of(base, weight, hi);
     Some(Report {
         rate,
-        settled: upper.places() == rate.places(),
+        settled: upper == rate,
     })
-}
-
-// The reported rate with the margin.
-fn all_in_rate(rate: ReportedRate, margin: Margin) -> i64
-    ensures value { result ≡ rate.places +ℤ margin.places }
-    ensures small { (negsuc 3660999999 ≤ℤ result) × (result ≤ℤ pos 3661000000) }
-{
-    rate.places() + i64::from(margin.places())
-}
-
-// A principal times a rate times days.
-fn interest(principal: CalculationAmount, rate: i64, days: DayCount) -> i128
-    requires { (negsuc 3660999999 ≤ℤ rate) × (rate ≤ℤ pos 3661000000) }
-    ensures { result ≡ (pos principal.cents *ℤ rate) *ℤ pos days.days }
-{
-    i128::from(principal.cents()) * i128::from(rate) * i128::from(days.number())
 }
 
 // The interest in cents on a principal over so many days, at a reported rate and a margin.
@@ -97,6 +60,7 @@ pub fn amount(
     ensures nearest { IsNearest (interest base principal.cents rate.places margin.places days.days) result }
     ensures small { SmallAmount result }
 {
-    let due = interest(principal, all_in_rate(rate, margin), days);
-    nearest_div(due, u64::from(base.days().number()) * 10_000_000) as i64
+    let all_in = rate.places() + i64::from(margin.places());
+    let interest = i128::from(principal.cents()) * i128::from(all_in) * i128::from(days.number());
+    nearest_div(interest, u64::from(base.days().number()) * 10_000_000) as i64
 }

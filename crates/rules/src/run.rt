@@ -1,11 +1,10 @@
 // A rule over a whole run of observations.
-ghost use Rattle.std.specs.Prelude.{◌≡◌, ◌<◌, true, MatchResult};
+ghost use Rattle.std.specs.Prelude.{◌≡◌, ◌<◌, MatchResult};
 ghost use Rattle.quantity.specs.Refusals.{told, plain};
 ghost use Rattle.rules.specs.Accrual.{weight_of};
 ghost use Rattle.rules.specs.Rate.{Accrues};
-ghost use Rattle.rules.specs.Reach.{is_in_reach};
 
-use crate::bounds::{Bounds, ModerateBounds, UNIT};
+use crate::bounds::{Bounds, ModerateBounds};
 use crate::observation::Observation;
 use crate::report::{Report, reported};
 use crate::rule::AccrualRule;
@@ -15,23 +14,12 @@ use quantity::year::YearBase;
 
 // What a rule gives over some observations: their number and weight, the bounds of the factor,
 // and the rate, which wants at least one.
-#[derive(Clone, Copy)]
+#[derive(Clone, Copy, Debug, PartialEq, Eq)]
 pub struct Accrual {
     pub count: u32,
     pub weight: TotalWeight,
     pub bounds: Bounds,
     pub report: Option<Report>,
-}
-
-// Bounds within reach, as the type that says so.
-fn moderate(bounds: Bounds) -> ModerateBounds
-    requires { (is_in_reach bounds.lo ≡ true) × (is_in_reach bounds.hi ≡ true) }
-    ensures { result.bounds ≡ bounds }
-{
-    match ModerateBounds::new(bounds) {
-        Some(moderate) => moderate,
-        None => unreachable(),
-    }
 }
 
 // The rule over all observations, the oldest first, or refusal 17 where their weights sum to over 400.
@@ -43,15 +31,13 @@ pub fn accrued<R: AccrualRule>(
     ensures { MatchResult result (λ a. Accrues (R.AccrualRule.grown rule.now base) (R.AccrualRule.widened rule.now base) base seen.now a) (λ e. (400 < weight_of seen.now) × (told e ≡ plain 17)) }
 {
     let mut weight = TotalWeight::none();
-    let mut bounds = moderate(Bounds { lo: UNIT, hi: UNIT });
-    let mut count: u32 = 0;
-    for o in seen {
+    let mut bounds = ModerateBounds::one();
+    for (count, o) in seen.iter().enumerate() {
         weight = weight.plus(o.weight)?;
-        bounds = moderate(rule.step(base, count, bounds, *o));
-        count += 1;
+        bounds = ModerateBounds::new(rule.step(base, count as u32, bounds, *o)).unwrap();
     }
     Ok(Accrual {
-        count,
+        count: seen.len() as u32,
         weight,
         bounds: bounds.bounds(),
         report: reported(base, weight, bounds),
