@@ -4,18 +4,19 @@
 mod request;
 
 use crate::request::{Layers, Request, arranged, request_in};
-use anyhow::anyhow;
+use anyhow::bail;
 use calendar::holidays::HolidayList;
 use fixings::file::FixingFile;
 use pile::direct::Direct;
 use pile::floor::Floor;
 use pile::lag::Lag;
 use pile::lockout::Lockout;
-use pile::observations::Observations;
+use pile::observations::{Observations, ObservedRate};
 use pile::shift::Shift;
 use quantity::fault::Fault;
 use quantity::position::Position;
 use quantity::refusal::Refusal;
+use quantity::weight::Weight;
 use schedule::schedule::Schedule;
 use std::io;
 use std::io::Read;
@@ -23,31 +24,35 @@ use std::io::Read;
 // An input of more bytes is not judged.
 const LIMIT: usize = 65_536;
 
-fn print_fault(rt: &HostRuntime, i: i32, day: u32, fault: Fault) -> io::Result<()> {
-    let position = fault.position.value();
-    let above = fault.above;
-    let refusal = Refusal::Faulted(fault);
-    println!(rt; "{i} {day} fault {refusal}, at position {position} under {above} layers")
+// The rate of a position with its observed date, and the weight; or the fault, the rate's before the weight's.
+fn observation_at<P: Observations>(
+    pile: &P,
+    at: Position,
+) -> Result<(ObservedRate, Weight), Fault> {
+    Ok((pile.rate(at)?, pile.weight(at)?))
 }
 
-// Position, day, observed date, rate and weight, or the fault: the rate's before the weight's.
+// Position, day, observed date, rate and weight, or the fault.
 fn print_position<P: Observations>(rt: &HostRuntime, pile: &P, i: i32) -> io::Result<()> {
     let at = Position::new(i);
     let Ok(date) = pile.day(at) else {
         return Ok(());
     };
     let day = date.number();
-    let seen = match pile.rate(at) {
-        Ok(seen) => seen,
-        Err(fault) => return print_fault(rt, i, day, fault),
-    };
-    let weight = match pile.weight(at) {
-        Ok(weight) => weight.days().number(),
-        Err(fault) => return print_fault(rt, i, day, fault),
-    };
-    let observed = seen.observed.number();
-    let rate = seen.rate.ticks();
-    println!(rt; "{i} {day} {observed} {rate} {weight}")
+    match observation_at(pile, at) {
+        Ok((ObservedRate { rate, observed }, weight)) => {
+            let observed = observed.number();
+            let rate = rate.ticks();
+            let weight = weight.days().number();
+            println!(rt; "{i} {day} {observed} {rate} {weight}")
+        }
+        Err(fault) => {
+            let position = fault.position.value();
+            let above = fault.above;
+            let refusal = Refusal::from(fault);
+            println!(rt; "{i} {day} fault {refusal}, at position {position} under {above} layers")
+        }
+    }
 }
 
 fn print_pile<P: Observations>(rt: &HostRuntime, pile: &P) -> io::Result<()> {
@@ -92,9 +97,9 @@ fn print_request(
 fn run(rt: &HostRuntime) -> anyhow::Result<()> {
     let request = request_in(rt)?;
     let mut input = Vec::new(rt.alloc());
-    rt.stdin().take(65_537).read_to_end(&mut input)?;
+    rt.stdin().take(LIMIT as u64 + 1).read_to_end(&mut input)?;
     if input.len() > LIMIT {
-        return Err(anyhow!("the input is over 65,536 bytes"));
+        bail!("the input is over 65,536 bytes");
     }
     let weekdays = HolidayList::new(rt.alloc())?;
     let mut file = FixingFile::new(rt.alloc())?;

@@ -1,5 +1,5 @@
 // What is asked for, and how it is judged.
-use anyhow::anyhow;
+use anyhow::Context;
 use calendar::holidays::HolidayList;
 use calendar::target::Target;
 use pile::floor::floor_of;
@@ -10,9 +10,10 @@ use quantity::rate::Rate;
 use quantity::refusal::Refusal;
 use schedule::schedule::Schedule;
 use std::env;
+use std::num::TryFromIntError;
 
 // The words of the command as numbers.
-#[derive(Clone, Copy)]
+#[derive(Clone, Copy, Debug, PartialEq, Eq)]
 pub(crate) struct Request {
     benchmark: BenchmarkCode,
     start: i64,
@@ -23,7 +24,7 @@ pub(crate) struct Request {
     floor: i64,
 }
 
-#[derive(Clone, Copy)]
+#[derive(Clone, Copy, Debug, PartialEq, Eq)]
 pub(crate) struct Layers {
     pub lag: Offset,
     pub shift: Offset,
@@ -31,62 +32,33 @@ pub(crate) struct Layers {
     pub floor: Rate,
 }
 
-fn benchmark_of(word: &str) -> Option<BenchmarkCode> {
-    match word {
-        "SOFR" => Some(BenchmarkCode::Sofr),
-        "SONIA" => Some(BenchmarkCode::Sonia),
-        "ESTR" => Some(BenchmarkCode::Estr),
-        _ => None,
-    }
-}
+const USAGE: &str = "usage: observe SOFR|SONIA|ESTR START END LAG SHIFT LOCKOUT FLOOR";
 
-fn word_of(word: Option<String>) -> anyhow::Result<String> {
-    match word {
-        Some(word) => Ok(word),
-        None => Err(anyhow!("usage: observe SOFR|SONIA|ESTR START END LAG SHIFT LOCKOUT FLOOR")),
-    }
-}
-
-fn number_of(word: Option<String>) -> anyhow::Result<i64> {
-    Ok(word_of(word)?.as_str().parse::<i64>()?)
+fn number_in(word: Option<String>) -> anyhow::Result<i64> {
+    Ok(word.context(USAGE)?.as_str().parse()?)
 }
 
 pub(crate) fn request_in(rt: &HostRuntime) -> anyhow::Result<Request> {
     let mut words = env::args(rt)?.skip(1);
-    let benchmark = word_of(words.next())?;
-    let Some(benchmark) = benchmark_of(benchmark.as_str()) else {
-        return Err(anyhow!("the benchmark is SOFR, SONIA or ESTR"));
-    };
     Ok(Request {
-        benchmark,
-        start: number_of(words.next())?,
-        end: number_of(words.next())?,
-        lag: number_of(words.next())?,
-        shift: number_of(words.next())?,
-        lockout: number_of(words.next())?,
-        floor: number_of(words.next())?,
+        benchmark: words.next().context(USAGE)?.as_str().parse()?,
+        start: number_in(words.next())?,
+        end: number_in(words.next())?,
+        lag: number_in(words.next())?,
+        shift: number_in(words.next())?,
+        lockout: number_in(words.next())?,
+        floor: number_in(words.next())?,
     })
 }
 
-fn date_of(number: i64) -> Result<Date, Refusal> {
-    match u32::try_from(number) {
-        Ok(number) => Date::new(number),
-        Err(_) => Err(Refusal::OutOfRange),
-    }
-}
-
-fn offset_of(count: i64) -> Result<Offset, Refusal> {
-    match u8::try_from(count) {
-        Ok(count) => Offset::new(count),
-        Err(_) => Err(Refusal::OutOfLimits),
-    }
-}
-
-fn floor_in(ticks: i64) -> Result<Rate, Refusal> {
-    match i32::try_from(ticks) {
-        Ok(ticks) => floor_of(ticks),
-        Err(_) => Err(Refusal::OutOfLimits),
-    }
+// What is made of a number, or the refusal of one that its maker does not take.
+fn judged<N, Q, F>(number: i64, outside: Refusal, make: F) -> Result<Q, Refusal>
+where
+    N: TryFrom<i64, Error = TryFromIntError>,
+    F: FnOnce(N) -> Result<Q, Refusal>,
+    requires { F.IsAlwaysCallable make }
+{
+    make(N::try_from(number).map_err(|_| outside)?)
 }
 
 // Builds the schedule, by TARGET for €STR and over weekdays for the others, and judges the layers after it.
@@ -96,19 +68,20 @@ pub(crate) fn arranged(
     weekdays: &HolidayList,
     schedule: &mut Schedule,
 ) -> Result<Layers, Refusal> {
-    if published.number() != request.benchmark.number() {
+    if published != request.benchmark {
         return Err(Refusal::OutOfRange);
     }
-    let start = date_of(request.start)?;
-    let end = date_of(request.end)?;
+    let start = judged(request.start, Refusal::OutOfRange, Date::new)?;
+    let end = judged(request.end, Refusal::OutOfRange, Date::new)?;
+    // One call in either arm: a `dyn` calendar would be made for it alone.
     match request.benchmark {
         BenchmarkCode::Estr => schedule.build(&Target, start, end)?,
         BenchmarkCode::Sofr | BenchmarkCode::Sonia => schedule.build(weekdays, start, end)?,
     }
     Ok(Layers {
-        lag: offset_of(request.lag)?,
-        shift: offset_of(request.shift)?,
-        lockout: offset_of(request.lockout)?,
-        floor: floor_in(request.floor)?,
+        lag: judged(request.lag, Refusal::OutOfLimits, Offset::new)?,
+        shift: judged(request.shift, Refusal::OutOfLimits, Offset::new)?,
+        lockout: judged(request.lockout, Refusal::OutOfLimits, Offset::new)?,
+        floor: judged(request.floor, Refusal::OutOfLimits, floor_of)?,
     })
 }
