@@ -1,6 +1,6 @@
 -- The lines that the rules give enclose the exact factor, report the exact rate, and add up.
 -- Assumes nothing.
-use Rattle.std.proofs.Common.{◌≡◌, ℕ, zero, suc, ◌+◌, ◌*◌, ◌^◌, ◌<◌, ◌≤◌, List, [], ◌∷◌, ◌++◌, length, take, ℤ, pos, ◌+ℤ◌, ◌-ℤ◌, ◌*ℤ◌, ◌≤ℤ◌, Some, sym, refl, ap, ◌∙◌, subst, arith}
+use Rattle.std.proofs.Common.{◌≡◌, ℕ, zero, suc, ◌+◌, ◌*◌, ◌^◌, ◌<◌, ◌≤◌, List, [], ◌∷◌, ◌++◌, length, take, pos, ◌+ℤ◌, ◌-ℤ◌, ◌*ℤ◌, ◌≤ℤ◌, Some, sym, refl, ap, ◌∙◌, subst, arith}
 use Rattle.std.proofs.lemmas.List.{append-nil, append_assoc, length-map, length-take-le}
 use Rattle.std.proofs.lemmas.Int.{ints}
 use Rattle.std.specs.List.{slice_get}
@@ -14,7 +14,7 @@ use Rattle.rules.specs.Runs.{encloses_of, narrow_of}
 use Rattle.coupon.specs.declared.day.Day.{Day}
 use Rattle.coupon.specs.declared.line.Line.{Line}
 use Rattle.coupon.specs.declared.terms.Terms.{Terms}
-use Rattle.coupon.specs.Lines.{amount_at, bounds_at, bounds_before, cumulative_before, cumulative_of, days_of, factor_at, last_of, line_after, lines_from, lines_of, observation_of, rate_at, seen, settled_at, sum_of_daily, weight_of, year_base}
+use Rattle.coupon.specs.Lines.{bounds_at, bounds_before, cumulative_before, cumulative_of, days_of, factor_at, last_of, lines_from, lines_of, observation_of, rate_at, seen, settled_at, sum_of_daily, weight_of, year_base}
 use Rattle.coupon.specs.Sound.{AddUp, Enclosed, Faithful, Sound}
 use Rattle.coupon.proofs.Rows.{bounds_is, cumulative_is, cumulative_pushed, lines_count, take_lines, weight_push, weight_take}
 
@@ -30,8 +30,8 @@ enclosed t ds ls k h light w =
     let es = take k ds in
     let B = scale (year_base t) in
     let few : weight_of es ≤ 400 = omega (arith, weight_take k ds) in
-    let bounds : bounds_before (last_of (take k ls)) ≡ bounds_at t es = ap (λ xs. bounds_before (last_of xs)) (ap (take k) h ∙ take_lines t [] k ds) ∙ bounds_is t es in
-    let len : length (seen es) ≡ k = length-map es observation_of ∙ length-take-le k ds w in
+    let bounds : bounds_before (last_of (take k ls)) ≡ bounds_at t es = cc (take_lines t [] k ds, bounds_is t es) in
+    let len : length (seen es) ≡ k = cc (length-map es observation_of, length-take-le k ds w) in
     let enc = row_encloses t es few in
     let low = subst (λ (n : ℕ). ((bounds_at t es).lo *ℤ pos (B ^ n)) ≤ℤ (pos unit *ℤ factor_at t es)) len enc.above in
     let high = subst (λ (n : ℕ). (pos unit *ℤ factor_at t es) ≤ℤ ((bounds_at t es).hi *ℤ pos (B ^ n))) len enc.below in
@@ -45,10 +45,9 @@ record Reports (t : Terms) (ds : List Day) (l : Line) : Type 0 where
   pub weighed : 0 < weight_of ds
 
 reports : (t : Terms) (ps ds : List Day) (i : ℕ) (l : Line) → slice_get (lines_from t ps ds) i ≡ Some l → Reports t (ps ++ take (suc i) ds) l
-reports t ps [] i l h = let z : ◌≡◌ {A = ℕ} 0 1 = cc in absurd (omega arith)
+reports t ps [] i l h = absurd cc
 reports t ps (d ∷ ds) zero l h =
-    let is : line_after t ps d ≡ l = cc in
-    record { rated = ap (λ (x : Line). x.reported) (sym is); marked = ap (λ (x : Line). x.settled) (sym is); weighed = omega (arith, weight_push ps d, d.weight.least) }
+    record { rated = cc; marked = cc; weighed = omega (arith, weight_push ps d, d.weight.least) }
 reports t ps (d ∷ ds) (suc i) l h = subst (λ (xs : List Day). Reports t xs l) (append_assoc ps (d ∷ []) (take (suc i) ds)) (reports t (ps ++ d ∷ []) ds i l h)
 
 faithful_to : (t : Terms) (ds : List Day) (l : Line) → weight_of ds ≤ 400 → Reports t ds l → Faithful t ds l
@@ -76,26 +75,18 @@ sound_of t ds ls h light = record {
 
 -- daily amounts add up
 
-nothing : (x : ℤ) → pos 0 ≡ x -ℤ x
-nothing x = omega (arith, ints)
-
-telescope : (a b c : ℤ) → (b -ℤ a) +ℤ (c -ℤ b) ≡ c -ℤ a
-telescope a b c = omega (arith, ints)
-
-from_zero : (x : ℤ) → x -ℤ pos 0 ≡ x
-from_zero x = omega (arith, ints)
-
 sum_from : (t : Terms) (ps ds : List Day) → sum_of_daily (lines_from t ps ds) ≡ cumulative_of t (ps ++ ds) -ℤ cumulative_of t ps
-sum_from t ps [] = nothing (cumulative_of t ps) ∙ ap (λ xs. cumulative_of t xs -ℤ cumulative_of t ps) (sym (append-nil ps))
+sum_from t ps [] = let e = ap (cumulative_of t) (append-nil ps) in omega (arith, ints)
 sum_from t ps (d ∷ ds) =
-    let qs = ps ++ d ∷ [] in
-    ap (λ x. (amount_at t qs -ℤ cumulative_of t ps) +ℤ x) (sum_from t qs ds)
-    ∙ ap (λ x. (x -ℤ cumulative_of t ps) +ℤ (cumulative_of t (qs ++ ds) -ℤ cumulative_of t qs)) (cumulative_pushed t ps d)
-    ∙ telescope (cumulative_of t ps) (cumulative_of t qs) (cumulative_of t (qs ++ ds))
-    ∙ ap (λ xs. cumulative_of t xs -ℤ cumulative_of t ps) (append_assoc ps (d ∷ []) ds)
+    let more = sum_from t (ps ++ d ∷ []) ds in
+    let pushed = cumulative_pushed t ps d in
+    let e = ap (cumulative_of t) (append_assoc ps (d ∷ []) ds) in
+    omega (arith, ints)
 
 pub add_up : (t : Terms) (ls : List Line) (ds : List Day) → ls ≡ lines_of t ds → AddUp ls
 add_up t ls ds h k =
     let es = take k ds in
-    let cut : take k ls ≡ lines_of t es = ap (take k) h ∙ take_lines t [] k ds in
-    ap sum_of_daily cut ∙ sum_from t [] es ∙ from_zero (cumulative_of t es) ∙ sym (cumulative_is t es) ∙ ap (λ xs. cumulative_before (last_of xs)) (sym cut)
+    let cut : take k ls ≡ lines_of t es = cc (take_lines t [] k ds) in
+    let sum = ap sum_of_daily cut in
+    let last = ap (λ xs. cumulative_before (last_of xs)) cut in
+    omega (arith, ints, sum_from t [] es, cumulative_is t es)

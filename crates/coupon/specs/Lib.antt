@@ -1,5 +1,4 @@
 pub mod Days
-pub mod Equal
 pub mod Lines
 pub mod Coupons
 pub mod Verdicts

@@ -46,11 +46,6 @@ refusal_of (Err e) = Some e
 abbrev pub position_at : ℕ → Position
 position_at k = record { value = pos k }
 
--- a position as a number of lines; none below 0
-abbrev pub count_of : ℤ → Option ℕ
-count_of (pos n) = Some n
-count_of (negsuc n) = None
-
 -- whether a position is one of 0 to k
 abbrev pub is_up_to : ℕ → ℤ → Bool
 is_up_to k (pos n) = nat_le n k

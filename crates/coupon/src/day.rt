@@ -1,5 +1,5 @@
 ghost use Rattle.std.specs.Prelude.{◌≡◌, ◌≤◌, pos};
-ghost use Rattle.coupon.specs.Days.{day_at, is_date, same_day};
+ghost use Rattle.coupon.specs.Days.{day_at};
 
 use pile::observations::{Observations, ObservedRate};
 use quantity::date::Date;
@@ -9,7 +9,7 @@ use quantity::rate::Rate;
 use quantity::weight::Weight;
 
 // What a line takes from a pile: its day, the day of the next position, the weight, and the rate with its observed date.
-#[derive(Clone, Copy)]
+#[derive(Clone, Copy, Debug, PartialEq, Eq)]
 pub struct Day {
     pub date: Date,
     pub next: Date,
@@ -18,7 +18,7 @@ pub struct Day {
     pub observed: Date,
 }
 
-// The position of the line after `count` others.
+// The position of the line after `count` others. A `From` would have to serve counts that 32 signed bits do not hold.
 pub(crate) fn position(count: u32) -> Position
     requires { count ≤ 2147483647 }
     ensures { result.value ≡ pos count }
@@ -42,30 +42,4 @@ pub(crate) fn observe<P: Observations>(pile: &P, count: u32) -> Result<Day, Faul
         rate,
         observed,
     })
-}
-
-// Whether a pile has this date at a position.
-pub(crate) fn is_date(day: Result<Date, Fault>, date: Date) -> bool
-    ensures { result ≡ is_date day date }
-{
-    match day {
-        Ok(day) => day.number() == date.number(),
-        Err(_) => false,
-    }
-}
-
-// Whether a pile gives the very day that a line bears.
-pub(crate) fn same_day(day: Day, given: Result<Day, Fault>) -> bool
-    ensures { result ≡ same_day day given }
-{
-    match given {
-        Ok(given) => {
-            day.date.number() == given.date.number()
-                && day.next.number() == given.next.number()
-                && day.weight.days().number() == given.weight.days().number()
-                && day.rate.ticks() == given.rate.ticks()
-                && day.observed.number() == given.observed.number()
-        }
-        Err(_) => false,
-    }
 }

@@ -5,7 +5,7 @@ use quantity::margin::Margin;
 use rules::rule::Rule;
 
 // The terms of a coupon. Its period has n days that accrue, from `start` to `end`; `note` is the number of the note.
-#[derive(Clone, Copy)]
+#[derive(Clone, Copy, Debug, PartialEq, Eq)]
 pub struct Terms {
     pub n: u32,
     pub start: Date,

@@ -6,7 +6,7 @@ ghost use Rattle.coupon.specs.Coupons.{Blank, Took, borne, held};
 ghost use Rattle.coupon.specs.Lines.{line_after, weight_of};
 ghost use Rattle.coupon.specs.Verdicts.{admitted, beyond, due_day, front, lightest, refusal_of};
 
-use crate::day::{Day, is_date, observe, position};
+use crate::day::{Day, observe, position};
 use crate::line::Line;
 use crate::lines::Lines;
 use crate::lines::reading::count_of;
@@ -29,29 +29,7 @@ use std::alloc::{AllocError, Global};
 fn days_between(from: Date, to: Date) -> DayCount
     ensures { result.days ≡ to.number - from.number }
 {
-    match to.since(from) {
-        Some(days) => days,
-        None => DayCount::new(0),
-    }
-}
-
-// The least amount that a coupon may be on.
-fn least_amount() -> CalculationAmount
-    ensures { result.cents ≡ 1 }
-{
-    match CalculationAmount::new(1) {
-        Ok(amount) => amount,
-        Err(_) => unreachable(),
-    }
-}
-
-fn no_margin() -> Margin
-    ensures { result.places ≡ pos 0 }
-{
-    match Margin::new(0) {
-        Ok(margin) => margin,
-        Err(_) => unreachable(),
-    }
+    to.since(from).unwrap_or(DayCount::new(0))
 }
 
 impl Lines {
@@ -68,8 +46,8 @@ impl Lines {
                 rule: Rule::Compounded,
                 benchmark: BenchmarkCode::Sofr,
                 note: 0,
-                amount: least_amount(),
-                margin: no_margin(),
+                amount: CalculationAmount::new(1).unwrap(),
+                margin: Margin::new(0).unwrap(),
             },
             lines,
         })
@@ -80,7 +58,7 @@ impl Lines {
         ensures terms { self.new.terms ≡ terms }
         ensures none { held self.new ≡ [] }
     {
-        self.lines.truncate(0);
+        self.lines.clear();
         self.terms = terms;
     }
 
@@ -92,13 +70,10 @@ impl Lines {
         if k >= self.terms.n {
             return Err(Refusal::AllAccrued);
         }
-        if !self.is_of_period(pile) || !is_date(pile.day(position(k)), self.next_date()) {
+        if !self.is_of_period(pile) || pile.day(position(k)) != Ok(self.next_date()) {
             return Err(Refusal::OtherPeriod);
         }
-        match observe(pile, k) {
-            Ok(day) => Ok(day),
-            Err(fault) => Err(Refusal::Faulted(fault)),
-        }
+        Ok(observe(pile, k)?)
     }
 
     // The line of one day more, or refusal 17 where the sum of weights would pass 400.
@@ -117,12 +92,8 @@ impl Lines {
             .terms
             .rule
             .step(base, self.count(), self.moderate(), seen);
-        let Some(moderate) = ModerateBounds::new(bounds) else {
-            unreachable()
-        };
-        let Some(report) = reported(base, total, moderate) else {
-            unreachable()
-        };
+        let moderate = ModerateBounds::new(bounds).unwrap();
+        let report = reported(base, total, moderate).unwrap();
         let days = days_between(self.terms.start, day.next);
         let cumulative = amount(
             base,
@@ -158,13 +129,11 @@ impl Lines {
         ensures judged { refused result ≡ beyond (borne self.old) j.value }
         ensures left { MatchResult result (λ _. (self.new.terms ≡ self.old.terms) × (borne self.new ≡ front j.value (borne self.old))) (λ _. self.new ≡ self.old) }
     {
-        let Some(count) = count_of(j) else {
-            return Err(Refusal::BeyondLines);
-        };
-        if count as usize > self.lines.len() {
+        let count = count_of(j)?;
+        if count > self.lines.len() {
             return Err(Refusal::BeyondLines);
         }
-        self.lines.truncate(count as usize);
+        self.lines.truncate(count);
         Ok(())
     }
 }

@@ -1,34 +1,31 @@
 // What the lines say, and a pile held against them.
-ghost use Rattle.std.specs.Prelude.{◌≡◌, ◌≤◌, length};
-ghost use Rattle.quantity.specs.Refusals.{answered};
+ghost use Rattle.std.specs.Prelude.{◌≡◌, ◌≤◌, length, pos, ◌<ℤ◌, MatchResult};
+ghost use Rattle.quantity.specs.Refusals.{answered, plain, told};
 ghost use Rattle.rules.specs.Rate.{SmallAmount};
 ghost use Rattle.coupon.specs.Days.{same_period};
 ghost use Rattle.coupon.specs.Lines.{bounds_at, cumulative_of, days_of, figures_of, last_of, lines_of, next_date, weight_of};
 ghost use Rattle.coupon.specs.Coupons.{borne, held};
 ghost use Rattle.coupon.specs.Sound.{AddUp, Sound};
-ghost use Rattle.coupon.specs.Verdicts.{checked, count_of, first_difference, line_at, position_at};
+ghost use Rattle.coupon.specs.Verdicts.{checked, first_difference, line_at, position_at};
 
-use crate::day::{is_date, observe, position, same_day};
+use crate::day::{observe, position};
 use crate::figures::Figures;
 use crate::line::Line;
 use crate::lines::Lines;
 use crate::terms::Terms;
 use pile::observations::Observations;
 use quantity::date::Date;
+use quantity::days::DayCount;
 use quantity::position::Position;
 use quantity::refusal::Refusal;
 use quantity::total::TotalWeight;
-use rules::bounds::{Bounds, ModerateBounds, UNIT};
+use rules::bounds::{Bounds, ModerateBounds};
 
-// A position as a number of lines; none below 0.
-pub(crate) fn count_of(i: Position) -> Option<u32>
-    ensures { result ≡ count_of i.value }
+// A position as a number of lines, or refusal 18 below 0.
+pub(crate) fn count_of(i: Position) -> Result<usize, Refusal>
+    ensures { MatchResult result (λ n. i.value ≡ pos n) (λ e. (i.value <ℤ pos 0) × (told e ≡ plain 18)) }
 {
-    let value = i.value();
-    if value < 0 {
-        return None;
-    }
-    Some(value as u32)
+    usize::try_from(i.value()).map_err(|_| Refusal::BeyondLines)
 }
 
 impl Lines {
@@ -46,6 +43,7 @@ impl Lines {
         self.lines.len() as u32
     }
 
+    #[tactic(auto, using(crate::proofs::Rows::last_is))]
     pub(crate) fn last(&self) -> Option<Line>
         ensures { result ≡ last_of (held self.now) }
     {
@@ -56,33 +54,24 @@ impl Lines {
     pub(crate) fn total(&self) -> TotalWeight
         ensures { result.days ≡ weight_of (borne self.now) }
     {
-        let Some(line) = self.last() else {
-            return TotalWeight::none();
-        };
-        match TotalWeight::new(line.total) {
-            Ok(total) => total,
-            Err(_) => unreachable(),
-        }
+        let days = self.last().map_or(DayCount::new(0), |line| line.total);
+        TotalWeight::new(days).unwrap()
     }
 
     // The bounds of the factor, which are one where there is no line.
     pub fn bounds(&self) -> Bounds
         ensures { result ≡ bounds_at self.now.terms (borne self.now) }
     {
-        match self.last() {
-            Some(line) => line.bounds,
-            None => Bounds { lo: UNIT, hi: UNIT },
-        }
+        self.last()
+            .map_or(ModerateBounds::one().bounds(), |line| line.bounds)
     }
 
     // The same, as bounds that an observation can follow.
+    #[tactic(auto, using(crate::proofs::Owned::bounds_in_reach))]
     pub(crate) fn moderate(&self) -> ModerateBounds
         ensures { result.bounds ≡ bounds_at self.now.terms (borne self.now) }
     {
-        match ModerateBounds::new(self.bounds()) {
-            Some(bounds) => bounds,
-            None => unreachable(),
-        }
+        ModerateBounds::new(self.bounds()).unwrap()
     }
 
     // The cumulative amount, which is 0 where there is no line.
@@ -90,28 +79,21 @@ impl Lines {
         ensures value { result ≡ cumulative_of self.now.terms (borne self.now) }
         ensures small { SmallAmount result }
     {
-        match self.last() {
-            Some(line) => line.cumulative,
-            None => 0,
-        }
+        self.last().map_or(0, |line| line.cumulative)
     }
 
     // The date that the next line is for.
     pub(crate) fn next_date(&self) -> Date
         ensures { result ≡ next_date self.now.terms.start (borne self.now) }
     {
-        match self.last() {
-            Some(line) => line.day.next,
-            None => self.terms.start,
-        }
+        self.last().map_or(self.terms.start, |line| line.day.next)
     }
 
     // What the coupon comes to by its lines, or none where there is no line.
     pub fn figures(&self) -> Option<Figures>
         ensures { result ≡ figures_of self.now.terms (borne self.now) }
     {
-        let line = self.last()?;
-        Some(Figures {
+        self.last().map(|line| Figures {
             note: self.terms.note,
             start: self.terms.start,
             end: self.terms.end,
@@ -122,6 +104,7 @@ impl Lines {
     }
 
     // The lines, the oldest first: those that the rules give for the days, with what is true of these.
+    #[tactic(auto, using(crate::proofs::Sound::sound_of, crate::proofs::Sound::add_up))]
     pub fn as_slice(&self) -> &[Line]
         ensures value { result.now ≡ lines_of self.now.terms (borne self.now) }
         ensures sound { Sound self.now.terms result.now (borne self.now) }
@@ -134,13 +117,8 @@ impl Lines {
     pub fn line(&self, i: Position) -> Result<Line, Refusal>
         ensures { answered result ≡ line_at (lines_of self.now.terms (borne self.now)) i.value }
     {
-        let Some(count) = count_of(i) else {
-            return Err(Refusal::BeyondLines);
-        };
-        match self.lines.get(count as usize) {
-            Some(line) => Ok(*line),
-            None => Err(Refusal::BeyondLines),
-        }
+        let count = count_of(i)?;
+        self.lines.get(count).copied().ok_or(Refusal::BeyondLines)
     }
 
     // Whether a pile has the days of the period: their number, the start and the end.
@@ -149,8 +127,8 @@ impl Lines {
     {
         let n = pile.length();
         n == self.terms.n
-            && is_date(pile.day(position(0)), self.terms.start)
-            && is_date(pile.day(position(n)), self.terms.end)
+            && pile.day(position(0)) == Ok(self.terms.start)
+            && pile.day(position(n)) == Ok(self.terms.end)
     }
 
     // The first position where a pile differs from the lines or faults, or else the position after them; refusal 16 for a pile of another period.
@@ -168,12 +146,10 @@ fn first_difference<P: Observations>(pile: &P, lines: &[Line]) -> Position
     requires { length lines.now ≤ 400 }
     ensures { result ≡ position_at (first_difference (P.meaning pile.now) 0 (days_of lines.now)) }
 {
-    let mut i = 0;
-    for line in lines {
-        if !same_day(line.day, observe(pile, i)) {
-            return position(i);
+    for (i, line) in lines.iter().enumerate() {
+        if Ok(line.day) != observe(pile, i as u32) {
+            return position(i as u32);
         }
-        i += 1;
     }
-    position(i)
+    position(lines.len() as u32)
 }

@@ -1,10 +1,10 @@
-use Rattle.std.proofs.Common.{ap, ◌∙◌}
-use Rattle.coupon.specs.Lines.{bounds_before}
-use Rattle.coupon.proofs.Owned.{bounds_of}
+use Rattle.std.proofs.Common.{refl, rules}
+use Rattle.coupon.specs.Lines.{bounds_at}
+use Rattle.coupon.specs.declared.line.Line.{Line}
+use Rattle.coupon.proofs.Owned.{read_last}
 use Rattle.coupon.proofs.lines.Lines.bounds.Goals as goal
 
-pub returns-in-Some : goal.returns-in-Some
-returns-in-Some c = ap bounds_before c.in-Some.ensures ∙ bounds_of c.args.self.now
-
-pub returns-in-None : goal.returns-in-None
-returns-in-None c = ap bounds_before c.in-None.ensures ∙ bounds_of c.args.self.now
+pub returns : goal.returns
+returns c =
+    let l = c.args.self.now in
+    read_last l (λ (x : Line). x.bounds) (bounds_at l.terms) (λ _ _. refl) c.last.result c.map_or.result c.last.ensures (search rules)

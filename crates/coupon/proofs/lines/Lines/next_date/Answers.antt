@@ -1,10 +1,11 @@
-use Rattle.std.proofs.Common.{ap, ◌∙◌}
-use Rattle.coupon.proofs.Rows.{date_after}
-use Rattle.coupon.proofs.Owned.{next_of}
+use Rattle.std.proofs.Common.{sym, rules}
+use Rattle.coupon.specs.Lines.{next_date}
+use Rattle.coupon.specs.declared.line.Line.{Line}
+use Rattle.coupon.proofs.Owned.{read_last}
+use Rattle.coupon.proofs.Rows.{next_push}
 use Rattle.coupon.proofs.lines.Lines.next_date.Goals as goal
 
-pub returns-in-Some : goal.returns-in-Some
-returns-in-Some c = ap (date_after c.args.self.now.terms.start) c.in-Some.ensures ∙ next_of c.args.self.now
-
-pub returns-in-None : goal.returns-in-None
-returns-in-None c = ap (date_after c.args.self.now.terms.start) c.in-None.ensures ∙ next_of c.args.self.now
+pub returns : goal.returns
+returns c =
+    let l = c.args.self.now in
+    read_last l (λ (x : Line). x.day.next) (next_date l.terms.start) (λ ps d. sym (next_push l.terms.start ps d)) c.last.result c.map_or.result c.last.ensures (search rules)

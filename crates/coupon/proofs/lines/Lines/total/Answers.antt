@@ -1,15 +1,19 @@
-use Rattle.std.proofs.Common.{ap, ◌∙◌, arith}
-use Rattle.coupon.proofs.Rows.{total_before}
-use Rattle.coupon.proofs.Owned.{total_of}
+use Rattle.std.proofs.Common.{◌≡◌, refl, arith, rules}
+use Rattle.coupon.specs.Coupons.{borne}
+use Rattle.coupon.specs.Lines.{weight_of}
+use Rattle.coupon.specs.declared.line.Line.{Line}
+use Rattle.coupon.proofs.Owned.{read_last}
 use Rattle.coupon.proofs.lines.Lines.total.Goals as goal
 
-pub returns-in_default : goal.returns-in_default
-returns-in_default c = c.none.ensures ∙ ap total_before c.in_default.ensures ∙ total_of c.args.self.now
-
-pub unreachable-requires : goal.unreachable-requires
-unreachable-requires c =
+pub unwrap-requires : goal.unwrap-requires
+unwrap-requires c =
     let l = c.args.self.now in
-    omega (arith, c.in-Err.ensures.0, ap total_before c.in-Some.ensures ∙ total_of l, l.light)
+    let light = l.light in
+    let read : c.map_or-days.result.days ≡ weight_of (borne l) = read_last l (λ (x : Line). x.total.days) weight_of (λ _ _. refl) c.last.result c.map_or-days.result.days c.last.ensures (search rules) in
+    grind arith
 
 pub returns : goal.returns
-returns c = c.in-Ok.ensures ∙ ap total_before c.in-Some.ensures ∙ total_of c.args.self.now
+returns c =
+    let l = c.args.self.now in
+    let read : c.map_or-days.result.days ≡ weight_of (borne l) = read_last l (λ (x : Line). x.total.days) weight_of (λ _ _. refl) c.last.result c.map_or-days.result.days c.last.ensures (search rules) in
+    grind arith

@@ -1,29 +1,18 @@
 use Rattle.std.proofs.Common.{refl, ap, ◌∙◌, arith}
-use Rattle.coupon.specs.Coupons.{borne, held}
-use Rattle.coupon.specs.Lines.{all_modest, days_of}
-use Rattle.coupon.proofs.Owned.{count_of}
-use Rattle.coupon.proofs.Positions.{beyond_none, beyond_past, front_is}
-use Rattle.coupon.proofs.Rows.{exact_cut, modest_take, take_days, weight_cut}
+use Rattle.std.proofs.lemmas.List.{take-map}
+use Rattle.coupon.specs.Coupons.{held}
+use Rattle.coupon.specs.Lines.{all_modest, day_of}
+use Rattle.coupon.proofs.Rows.{exact_cut, modest_take, weight_cut}
 use Rattle.coupon.proofs.lines.Lines.wind_back.Goals as goal
 
-pub returns-then-count-len : goal.returns-then-count-len
-returns-then-count-len c =
-    let a = c.args.self.now in
-    record {
-      judged = beyond_past (borne a) c.args.j.value c.in-Some.count c.in-Some.ensures (omega (arith, count_of a, c.if-count-len.true, c.len.ensures));
-      left = refl;
-    }
+pub invariant_of-self-clause-exact : goal.invariant_of-self-clause-exact
+invariant_of-self-clause-exact c = let a = c.args.self.now in exact_cut a.terms (held a) a.exact c.in_ok-count.count _ c.truncate.ensures.items
 
-pub invariant_of-self : goal.invariant_of-self
-invariant_of-self c =
-    let a = c.args.self.now in
-    let items = c.truncate.ensures.items in record { exact = exact_cut a.terms (held a) a.exact c.in-Some.count _ items; light = omega (arith, weight_cut c.in-Some.count (held a) _ items, a.light); modest = ap all_modest items ∙ modest_take c.in-Some.count (held a) a.modest; within = omega (arith, c.truncate.ensures.len, a.within); room = omega (arith, c.truncate.ensures.capacity, a.room) }
+pub invariant_of-self-clause-light : goal.invariant_of-self-clause-light
+invariant_of-self-clause-light c = let a = c.args.self.now in omega (arith, weight_cut c.in_ok-count.count (held a) _ c.truncate.ensures.items, a.light)
 
-pub returns : goal.returns
-returns c =
-    let a = c.args.self.now in
-    let n = c.in-Some.count in
-    record {
-      judged = beyond_none (borne a) c.args.j.value n c.in-Some.ensures (omega (arith, count_of a, c.if-count-len.false, c.len.ensures));
-      left = (refl, ap days_of c.truncate.ensures.items ∙ take_days n (held a) ∙ front_is (borne a) c.args.j.value n c.in-Some.ensures);
-    }
+pub invariant_of-self-clause-modest : goal.invariant_of-self-clause-modest
+invariant_of-self-clause-modest c = let a = c.args.self.now in ap all_modest c.truncate.ensures.items ∙ modest_take c.in_ok-count.count (held a) a.modest
+
+pub returns-clause-left : goal.returns-clause-left
+returns-clause-left c = (refl, rw c.in_ok-count.ensures (cc (take-map day_of c.in_ok-count.count (held c.args.self.now))))
