@@ -1,14 +1,12 @@
 -- Each standing day was admitted, over the pile that gave it, when just the days before it stood.
 -- Every call keeps this, since winding back takes days off the end only.
 -- Assumes nothing.
-use Rattle.std.proofs.Common.{◌≡◌, ℕ, zero, suc, Bool, true, false, cond, ◌&&◌, ltb, List, [], ◌∷◌, ◌++◌, map, length, take, ℤ, pos, negsuc, Some, None, Ok, Err, Option, Result, sym, refl, ap, ◌∙◌, subst, arith}
+use Rattle.std.proofs.Common.{◌≡◌, ℕ, zero, suc, Bool, true, false, cond, List, [], ◌∷◌, ◌++◌, map, length, take, ℤ, pos, negsuc, Some, None, Ok, Err, Option, Result, sym, refl, ap, ◌∙◌, subst, arith}
 use Rattle.std.proofs.lemmas.List.{append-nil, append_assoc}
 use Rattle.quantity.specs.Refusals.{Told, plain}
-use Rattle.quantity.specs.declared.fault.Fault.{Fault}
 use Rattle.pile.specs.Piles.{Pile}
-use Rattle.coupon.specs.Days.{day_at, is_date, same_period}
-use Rattle.coupon.specs.Lines.{next_date, weight_of}
-use Rattle.coupon.specs.Verdicts.{admitted, and_light, due_day, front, given, refusal_of}
+use Rattle.coupon.specs.Days.{day_at}
+use Rattle.coupon.specs.Verdicts.{admitted, front, refusal_of}
 use Rattle.coupon.specs.declared.day.Day.{Day}
 use Rattle.coupon.specs.declared.terms.Terms.{Terms}
 use Rattle.account.specs.declared.phase.Phase.TheVariants.{Accruing}
@@ -17,25 +15,8 @@ use Rattle.account.specs.Tally.{Call, Tally, accrue, accrued, advance, answering
 
 -- an admitted day is the pile's
 
-given_ok : (r : Result Day Fault) (d : Day) → given r ≡ Ok d → r ≡ Ok d
-given_ok (Ok x) d h = let same : x ≡ d = cc in ap Ok same
-given_ok (Err f) d h = let z : ◌≡◌ {A = ℕ} 0 1 = cc in absurd (omega arith)
-
-due_ok : (a b : Bool) (r : Result Day Told) (d : Day) → cond a (cond b r (Err (plain 16))) (Err (plain 15)) ≡ Ok d → r ≡ Ok d
-due_ok true true r d h = h
-due_ok true false r d h = let z : ◌≡◌ {A = ℕ} 0 1 = cc in absurd (omega arith)
-due_ok false b r d h = let z : ◌≡◌ {A = ℕ} 0 1 = cc in absurd (omega arith)
-
-lightest_ok : (b : Bool) (x d : Day) → ◌≡◌ {A = Result Day Told} (cond b (Ok x) (Err (plain 17))) (Ok d) → x ≡ d
-lightest_ok true x d h = cc
-lightest_ok false x d h = let z : ◌≡◌ {A = ℕ} 0 1 = cc in absurd (omega arith)
-
-light_ok : (W : ℕ) (r : Result Day Told) (d : Day) → and_light W r ≡ Ok d → r ≡ Ok d
-light_ok W (Ok x) d h = ap Ok (lightest_ok _ x d h)
-light_ok W (Err e) d h = let z : ◌≡◌ {A = ℕ} 0 1 = cc in absurd (omega arith)
-
 pub admitted-given : (t : Terms) (ds : List Day) (m : Pile) (d : Day) → admitted t ds m ≡ Ok d → day_at m (length ds) ≡ Ok d
-admitted-given t ds m d h = given_ok _ d (due_ok (ltb (length ds) t.n) (same_period t m && is_date (m.day (pos (length ds))) (next_date t.start ds)) (given (day_at m (length ds))) d (light_ok (weight_of ds) (due_day t ds m) d h))
+admitted-given t ds m d h = grind arith
 
 abbrev pub Goes : Terms → List Day → List Pile → List Day → Type 0
 Goes t ds [] [] = Unit {0}
@@ -64,8 +45,8 @@ goes_push t ds (n ∷ ms) (x ∷ es) m e g h = (g.0, goes_push t (ds ++ x ∷ []
 
 not_refused : (b : Bool) (r : Result Day Told) → refusal_of (cond b (answering (λ _. accrued) r) (Err (plain 14))) ≡ None → (d : Day) × (r ≡ Ok d)
 not_refused true (Ok d) h = (d, refl)
-not_refused true (Err e) h = let z : ◌≡◌ {A = ℕ} 0 1 = cc in absurd (omega arith)
-not_refused false r h = let z : ◌≡◌ {A = ℕ} 0 1 = cc in absurd (omega arith)
+not_refused true (Err e) h = absurd cc
+not_refused false r h = absurd cc
 
 module _ (t : Terms) (s : Tally) (ms : List Pile) (g : Goes t [] ms s.standing) where
   goes_through : (c : Call) → judge t s c ≡ None → Goes t [] (given_by ms c) (carried s c).standing
@@ -102,10 +83,10 @@ accruing ds = record { phase = Accruing; standing = ds }
 
 module _ (t : Terms) (ds : List Day) (m : Pile) (e : Day) (h : admitted t ds m ≡ Ok e) where
   accrues : judge t (accruing ds) (accrue m) ≡ None
-  accrues = ap (λ r. refusal_of (answering (λ _. accrued) r)) h
+  accrues = cc
 
   accrues_to : advance t (accruing ds) (accrue m) ≡ accruing (ds ++ e ∷ [])
-  accrues_to = ap (λ v. unless_refused v (carried (accruing ds) (accrue m)) (accruing ds)) accrues ∙ ap (λ r. accruing (appended ds r)) (admitted-given t ds m e h)
+  accrues_to = cc (accrues, admitted-given t ds m e h)
 
 replay_through : (t : Terms) (ds : List Day) (ms : List Pile) (es : List Day) → Goes t ds ms es → Through t (accruing ds) (map accrue ms)
 replay_through t ds [] [] g = tt

@@ -2,5 +2,4 @@ pub mod Goes
 pub mod States
 pub mod Made
 pub mod Calls
-pub mod Opens
 pub mod Reconciles

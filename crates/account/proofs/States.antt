@@ -1,13 +1,12 @@
 -- What holds of an account after any list of calls.
 -- Assumes nothing.
 use Rattle.std.proofs.Common.{◌≡◌, ◌≤◌, List, [], ◌∷◌, ◌++◌, sym, refl, ap, ◌∙◌, subst}
-use Rattle.coupon.specs.Lines.{days_of, lines_of, weight_of}
+use Rattle.coupon.specs.Lines.{lines_of, weight_of}
 use Rattle.coupon.specs.Sound.{AddUp}
 use Rattle.coupon.proofs.Sound.{add_up, sound_of}
 use Rattle.coupon.specs.declared.day.Day.{Day}
 use Rattle.coupon.specs.declared.terms.Terms.{Terms}
 use Rattle.account.specs.declared.account.Account.{Account}
-use Rattle.account.specs.declared.phase.Phase.{Phase}
 use Rattle.account.specs.Accounts.{lines_in, standing_of, tally_of, terms_of}
 use Rattle.account.specs.Histories.{Follows, Opened, Performed, Reached, Stated}
 use Rattle.account.specs.Tally.{Call, Tally, advance, begun, replay, tally, tally_from}
@@ -19,21 +18,15 @@ pub record Known (t : Terms) (s : Tally) (a : Account) : Type 0 where
   pub tallied : tally_of a ≡ s
 
 known_from : (t : Terms) (cs : List Call) (a e : Account) (s : Tally) → Known t s a → Follows a cs e → Known t (tally_from t s cs) e
-known_from t [] a e s k f = record { on_terms = ap terms_of (sym f) ∙ k.on_terms; tallied = ap tally_of (sym f) ∙ k.tallied }
+known_from t [] a e s k f = record { on_terms = cc; tallied = cc }
 known_from t (c ∷ cs) a e s k f =
     let p = f.1.0 in
     known_from t cs f.0 e (advance t s c)
-    record { on_terms = p.same_terms ∙ k.on_terms; tallied = p.tallied ∙ ap (λ u. advance u (tally_of a) c) k.on_terms ∙ ap (λ x. advance t x c) k.tallied }
+    record { on_terms = cc; tallied = cc }
     f.1.1
 
-abbrev made_tally : Phase → List Day → Tally
-made_tally p ds = record { phase = p; standing = ds }
-
-pub tally-same : (p q : Phase) (ds es : List Day) → p ≡ q → ds ≡ es → made_tally p ds ≡ made_tally q es
-tally-same p q ds es e f = ap (λ x. made_tally x ds) e ∙ ap (made_tally q) f
-
 opened_known : (t : Terms) (a : Account) → Opened t a → Known t begun a
-opened_known t a h = record { on_terms = h.on_terms; tallied = tally-same _ _ _ _ h.accruing (ap days_of h.no_lines) }
+opened_known t a h = record { on_terms = h.on_terms; tallied = cc (h.accruing, h.no_lines) }
 
 pub known_after : (a e : Account) (cs : List Call) → Follows a cs e → Known (terms_of a) (tally_from (terms_of a) (tally_of a) cs) e
 known_after a e cs f = known_from (terms_of a) cs a e (tally_of a) (record { on_terms = refl; tallied = refl }) f
@@ -43,7 +36,7 @@ known t cs a r = known_from t cs r.first a begun (opened_known t r.first r.opene
 
 -- the lines of an account are what the rules give for its tally's standing days
 lines_known : (t : Terms) (ds : List Day) (a : Account) → terms_of a ≡ t → standing_of a ≡ ds → lines_in a ≡ lines_of t ds
-lines_known t ds a on days = a.lines.exact ∙ ap (λ u. lines_of u (standing_of a)) on ∙ ap (lines_of t) days
+lines_known t ds a on days = cc a.lines.exact
 
 standing_known : (t : Terms) (s : Tally) (a : Account) → Known t s a → standing_of a ≡ s.standing
 standing_known t s a k = ap (λ (x : Tally). x.standing) k.tallied

@@ -1,6 +1,6 @@
 -- What an opening does, and when it is turned down.
 -- Assumes nothing.
-use Rattle.std.specs.Prelude.{◌≡◌, ℕ, Bool, cond, ◌&&◌, [], ℤ, pos, negsuc, Some, None, Ok, Err, Option, Result, MatchResult, int_le, nat_le}
+use Rattle.std.specs.Prelude.{◌≡◌, ℕ, Bool, cond, ◌&&◌, List, [], ℤ, pos, negsuc, Some, None, Ok, Err, Option, Result, MatchResult, int_le, nat_le}
 use Rattle.quantity.specs.Refusals.{Told, plain, told}
 use Rattle.quantity.specs.declared.refusal.Refusal.{Refusal}
 use Rattle.pile.specs.Piles.{Pile}
@@ -12,6 +12,7 @@ use Rattle.account.specs.declared.phase.Phase.{Phase}
 use Rattle.account.specs.declared.phase.Kind.TheVariants.{Open}
 use Rattle.account.specs.Histories.{Reached, Stated}
 use Rattle.account.specs.Phases.{moved}
+use Rattle.account.specs.Tally.{Call}
 
 -- the terms that a pile and an offer make
 pub record Offered (m : Pile) (o : Offer) (t : Terms) : Type 0 where
@@ -35,8 +36,12 @@ is_margin places = int_le (negsuc 999999) places && int_le places (pos 1000000)
 abbrev pub judge_opening : Phase → Offer → Option Told
 judge_opening p o = refusal_of (cond (is_amount o.amount && is_margin o.margin) (moved p Open) (Err (plain 10)))
 
--- an account opened on these terms, with the statement for no calls; or turned down with nothing changed
-abbrev pub Opening : Pile → Offer → Account → Account → Result (Unit {0}) Refusal → Type 0
-Opening m o a b r = MatchResult r
-    (λ _. (judge_opening a.phase o ≡ None) × ((t : Terms) × (Offered m o t × (Reached t [] b × Stated t [] b))))
+-- an account opened over a pile and then called, with the statement for these calls; or turned down with nothing changed
+abbrev pub Anew : Pile → Offer → List Call → Account → Account → Result (Unit {0}) Refusal → Type 0
+Anew m o cs a b r = MatchResult r
+    (λ _. (judge_opening a.phase o ≡ None) × ((t : Terms) × (Offered m o t × (Reached t cs b × Stated t cs b))))
     (λ e. (judge_opening a.phase o ≡ Some (told e)) × (b ≡ a))
+
+-- the same for no calls
+abbrev pub Opening : Pile → Offer → Account → Account → Result (Unit {0}) Refusal → Type 0
+Opening m o a b r = Anew m o [] a b r

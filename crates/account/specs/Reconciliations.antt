@@ -8,12 +8,10 @@ use Rattle.pile.specs.Piles.{Pile}
 use Rattle.coupon.specs.Sound.{Sound}
 use Rattle.coupon.specs.declared.terms.Terms.{Terms}
 use Rattle.account.specs.declared.account.Account.{Account}
-use Rattle.account.specs.declared.offer.Offer.{Offer}
 use Rattle.account.specs.declared.phase.Phase.{Phase}
 use Rattle.account.specs.declared.phase.Kind.TheVariants.{Open, Read}
 use Rattle.account.specs.Accounts.{lines_in, tally_of, terms_of}
 use Rattle.account.specs.Histories.{Follows, Reached, Stated}
-use Rattle.account.specs.Openings.{Offered, judge_opening}
 use Rattle.account.specs.Phases.{allows}
 use Rattle.account.specs.Tally.{Call, Tally, accrue, advance, begun, givers, judge, tally}
 
@@ -52,9 +50,3 @@ abbrev pub Reconciling : List Pile → Account → Account → Account → Resul
 Reconciling ms issuer o b r = MatchResult r
     (λ yes. (judge_reconciling issuer.phase o.phase ≡ None) × Reconciled ms issuer b yes)
     (λ e. (judge_reconciling issuer.phase o.phase ≡ Some (told e)) × (b ≡ o))
-
--- an account opened over a pile, and then called: the statement holds of these calls
-abbrev pub Anew : Pile → Offer → List Call → Account → Account → Result (Unit {0}) Refusal → Type 0
-Anew m o cs a b r = MatchResult r
-    (λ _. (judge_opening a.phase o ≡ None) × ((t : Terms) × (Offered m o t × (Reached t cs b × Stated t cs b))))
-    (λ e. (judge_opening a.phase o ≡ Some (told e)) × (b ≡ a))

@@ -1,13 +1,12 @@
 -- The tally of an account's calls: a phase and the standing days. It is fed the terms, then each call's arguments.
 -- Assumes nothing.
-use Rattle.std.specs.Prelude.{Bool, false, cond, ◌&&◌, List, [], ◌∷◌, ◌++◌, map, length, ℤ, Some, None, Ok, Err, Option, Result, ◌==◌, nat_le}
+use Rattle.std.specs.Prelude.{◌≡◌, refl, Bool, true, false, not, cond, ◌&&◌, List, [], ◌∷◌, ◌++◌, map, length, ℤ, Some, None, Ok, Err, Option, Result, ◌==◌, nat_le}
 use Rattle.quantity.specs.Refusals.{Told, plain}
 use Rattle.quantity.specs.declared.fault.Fault.{Fault}
 use Rattle.quantity.specs.declared.position.Position.{Position}
 use Rattle.rules.specs.Rate.{same}
 use Rattle.pile.specs.Piles.{Pile}
 use Rattle.coupon.specs.Days.{day_at}
-use Rattle.coupon.specs.Equal.{same_mark}
 use Rattle.coupon.specs.Lines.{bounds_at, figures_of, lines_of}
 use Rattle.coupon.specs.Verdicts.{admitted, beyond, checked, front, line_at, refusal_of}
 use Rattle.coupon.specs.declared.day.Day.{Day}
@@ -58,6 +57,15 @@ pub data Answer : Type 0 where
   stands : Status → Answer
   refused : Told → Answer
   given_back : Told → Figures → Answer
+
+-- whether two settled marks are the same
+abbrev pub same_mark : Bool → Bool → Bool
+same_mark true b = b
+same_mark false b = not b
+
+pub mark_self : (b : Bool) → same_mark b b ≡ true
+mark_self true = refl
+mark_self false = refl
 
 -- whether a due's figures are those that the rules give
 abbrev pub same_figures : Figures → Option Figures → Bool

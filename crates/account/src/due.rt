@@ -16,8 +16,8 @@ impl Due {
     }
 }
 
-// What was paid. Only `pay` makes one.
-#[derive(Clone, Copy)]
+// What was paid. Only `pay` makes one. It may be kept or copied, and a due must be used up: so they are two types.
+#[derive(Clone, Copy, Debug, PartialEq, Eq)]
 pub struct Receipt {
     pub(crate) figures: Figures,
 }

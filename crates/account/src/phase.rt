@@ -4,7 +4,7 @@ ghost use Rattle.account.specs.Phases.{moved};
 
 use quantity::refusal::Refusal;
 
-#[derive(Clone, Copy)]
+#[derive(Clone, Copy, Debug, PartialEq, Eq)]
 pub enum Phase {
     Empty,
     Accruing,
@@ -13,7 +13,7 @@ pub enum Phase {
 }
 
 // Which call is made, without its arguments.
-#[derive(Clone, Copy)]
+#[derive(Clone, Copy, Debug, PartialEq, Eq)]
 pub enum Kind {
     Open,
     Accrue,
@@ -25,7 +25,7 @@ pub enum Kind {
     Read,
 }
 
-// The phase that a call leads to, or refusal 14.
+// The phase that a call leads to, or refusal 14. This one table of phases and kinds decides every transition.
 pub fn transition(phase: Phase, kind: Kind) -> Result<Phase, Refusal>
     ensures { answered result ≡ moved phase kind }
 {

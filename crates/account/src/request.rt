@@ -1,3 +1,6 @@
+ghost use Rattle.std.specs.Prelude.{◌≡◌};
+ghost use Rattle.account.specs.declared.request.TurnedDown.TheVariants.{GivenBack, Refused};
+
 use crate::due::{Due, Receipt, Returned};
 use crate::phase::Phase;
 use coupon::line::Line;
@@ -6,7 +9,7 @@ use quantity::refusal::Refusal;
 use rules::bounds::Bounds;
 
 // How an account stands: its phase, the number of its lines and of its period's days, and the bounds of the factor.
-#[derive(Clone, Copy)]
+#[derive(Clone, Copy, Debug, PartialEq, Eq)]
 pub struct Status {
     pub phase: Phase,
     pub k: u32,
@@ -26,7 +29,7 @@ pub enum Request<'a, P> {
     Status,
 }
 
-// What a call answers.
+// What a call that goes through answers.
 pub enum Reply {
     Accrued,
     Agrees(Position),
@@ -36,6 +39,26 @@ pub enum Reply {
     Receipted(Receipt),
     Holds(Line),
     Stands(Status),
+}
+
+// Why a call is turned down, and the due that it offered.
+pub enum TurnedDown {
     Refused(Refusal),
     GivenBack(Returned),
+}
+
+impl From<Refusal> for TurnedDown {
+    ghost from_gives = { λ refusal turned_down. turned_down ≡ Refused refusal };
+
+    fn from(refusal: Refusal) -> TurnedDown {
+        TurnedDown::Refused(refusal)
+    }
+}
+
+impl From<Returned> for TurnedDown {
+    ghost from_gives = { λ returned turned_down. turned_down ≡ GivenBack returned };
+
+    fn from(returned: Returned) -> TurnedDown {
+        TurnedDown::GivenBack(returned)
+    }
 }

@@ -1,8 +1,8 @@
 // The calls of an account.
-ghost use Rattle.std.specs.Prelude.{◌≡◌, [], IfOk, Some, None};
+ghost use Rattle.std.specs.Prelude.{◌≡◌, [], IfOk, MatchResult, Some, None, Ok, Err};
 ghost use Rattle.coupon.specs.Coupons.{Blank, held};
 ghost use Rattle.coupon.specs.Lines.{figures_of};
-ghost use Rattle.quantity.specs.Refusals.{answered};
+ghost use Rattle.quantity.specs.Refusals.{answered, told};
 ghost use Rattle.account.specs.Phases.{settled_phase};
 ghost use Rattle.account.specs.Tally.{accrue, check, wind_back, close, withdraw, pay, read, status, judge, same_figures};
 ghost use Rattle.account.specs.Accounts.{tally_of, terms_of, standing_of};
@@ -21,17 +21,6 @@ use pile::observations::Observations;
 use quantity::position::Position;
 use quantity::refusal::Refusal;
 use std::alloc::{AllocError, Global};
-
-fn same_figures(a: Figures, b: Figures) -> bool
-    ensures { result ≡ same_figures a (Some b) }
-{
-    a.note == b.note
-        && a.start.number() == b.start.number()
-        && a.end.number() == b.end.number()
-        && a.reported == b.reported
-        && a.settled == b.settled
-        && a.cumulative == b.cumulative
-}
 
 impl Account {
     // An empty account, with room for the lines of any period: no other call takes memory.
@@ -69,7 +58,7 @@ impl Account {
     pub fn check<P: Observations>(&self, pile: &P) -> Result<Position, Refusal>
         ensures { Done (check (P.meaning pile.now)) self.now self.now (check_answer result) }
     {
-        let _ = transition(self.phase, Kind::Check)?;
+        transition(self.phase, Kind::Check)?;
         self.lines.check(pile)
     }
 
@@ -82,60 +71,60 @@ impl Account {
         if self.lines.count() < self.lines.terms().n {
             return Err(Refusal::NotAllAccrued);
         }
-        let Some(figures) = self.lines.figures() else {
-            return Err(Refusal::NotAllAccrued);
-        };
+        let figures = self.lines.figures().ok_or(Refusal::NotAllAccrued)?;
         self.phase = phase;
         Ok(Due { figures })
     }
 
-    // The phase that a call with a due leads to, if its figures are the account's.
-    fn settle(&self, kind: Kind, figures: Figures) -> Result<Phase, Refusal>
+    // The phase that a call with a due leads to, if the due's figures are the account's.
+    fn settled_phase(&self, kind: Kind, figures: Figures) -> Result<Phase, Refusal>
         ensures { answered result ≡ settled_phase self.now.phase kind (same_figures figures (figures_of (terms_of self.now) (standing_of self.now))) }
     {
         let phase = transition(self.phase, kind)?;
-        let Some(own) = self.lines.figures() else {
-            return Err(Refusal::OtherFigures);
-        };
-        if !same_figures(figures, own) {
+        if Some(figures) != self.lines.figures() {
             return Err(Refusal::OtherFigures);
         }
         Ok(phase)
+    }
+
+    // The phase that a call with a due leads to, and the figures of the due, which is used up; or the due given back, with why.
+    fn settle(&self, kind: Kind, due: Due) -> Result<(Phase, Figures), Returned>
+        ensures { let phase = settled_phase self.now.phase kind (same_figures due.figures (figures_of (terms_of self.now) (standing_of self.now))) in
+            MatchResult result (λ s. (Ok s.0 ≡ phase) × (s.1 ≡ due.figures)) (λ r. (Err (told r.refusal) ≡ phase) × (r.due ≡ due)) }
+    {
+        // the closure of a `map_err` would own the due, which the other arm uses up
+        match self.settled_phase(kind, due.figures) {
+            Ok(phase) => {
+                let Due { figures } = due;
+                Ok((phase, figures))
+            }
+            Err(refusal) => Err(Returned { refusal, due }),
+        }
     }
 
     // Uses up the due of a closed account, which then accrues again.
     pub fn withdraw(&mut self, due: Due) -> Result<(), Returned>
         ensures { Done (withdraw due.figures) self.old self.new (withdraw_answer result) }
     {
-        match self.settle(Kind::Withdraw, due.figures) {
-            Ok(phase) => {
-                self.phase = phase;
-                let Due { figures: _ } = due;
-                Ok(())
-            }
-            Err(refusal) => Err(Returned { refusal, due }),
-        }
+        let (phase, _) = self.settle(Kind::Withdraw, due)?;
+        self.phase = phase;
+        Ok(())
     }
 
     // Takes the due of a closed account for a receipt.
     pub fn pay(&mut self, due: Due) -> Result<Receipt, Returned>
         ensures { Done (pay due.figures) self.old self.new (pay_answer result) }
     {
-        match self.settle(Kind::Pay, due.figures) {
-            Ok(phase) => {
-                self.phase = phase;
-                let Due { figures } = due;
-                Ok(Receipt { figures })
-            }
-            Err(refusal) => Err(Returned { refusal, due }),
-        }
+        let (phase, figures) = self.settle(Kind::Pay, due)?;
+        self.phase = phase;
+        Ok(Receipt { figures })
     }
 
     // The line at a position.
     pub fn line(&self, i: Position) -> Result<Line, Refusal>
         ensures { Done (read i.value) self.now self.now (line_answer result) }
     {
-        let _ = transition(self.phase, Kind::Read)?;
+        transition(self.phase, Kind::Read)?;
         self.lines.line(i)
     }
 
@@ -143,7 +132,7 @@ impl Account {
     pub fn status(&self) -> Result<Status, Refusal>
         ensures { Done status self.now self.now (status_answer result) }
     {
-        let _ = transition(self.phase, Kind::Read)?;
+        transition(self.phase, Kind::Read)?;
         Ok(Status {
             phase: self.phase,
             k: self.lines.count(),

@@ -19,10 +19,7 @@ fn day_of<P: Observations>(pile: &P, i: u32) -> Date
     requires { i ≤ (P.meaning pile.now).n }
     ensures { (P.meaning pile.now).day (pos i) ≡ Ok result }
 {
-    match pile.day(Position::new(i as i32)) {
-        Ok(day) => day,
-        Err(_) => unreachable(),
-    }
+    pile.day(Position::new(i as i32)).unwrap()
 }
 
 impl Account {
@@ -41,7 +38,7 @@ impl Account {
     {
         let amount = CalculationAmount::new(offer.amount)?;
         let margin = Margin::new(offer.margin)?;
-        let _ = transition(self.phase, Kind::Open)?;
+        transition(self.phase, Kind::Open)?;
         let n = pile.length();
         self.begin(Terms {
             n,

@@ -1,6 +1,7 @@
 // An issuer's account held against a holder's, and a coupon accrued anew over a restated pile.
 ghost use Rattle.std.specs.Prelude.{◌≡◌, [], ◌∷◌, pos};
-ghost use Rattle.account.specs.Reconciliations.{Anew, Reconciling, Replayed, meanings};
+ghost use Rattle.account.specs.Openings.{Anew};
+ghost use Rattle.account.specs.Reconciliations.{Reconciling, Replayed, meanings};
 ghost use Rattle.account.specs.Tally.{accrue, check, wind_back};
 
 use crate::account::Account;
@@ -15,10 +16,10 @@ impl Account {
     fn replay<P: Observations>(&mut self, piles: &[&P]) -> bool
         ensures { Replayed (meanings P.meaning piles.now) self.old self.new result }
     {
+        // a `fold` would hide from the proof what its closure does to the account
         let mut all = true;
         for pile in piles {
-            let through = self.accrue(*pile).is_ok();
-            all = all & through;
+            all &= self.accrue(*pile).is_ok();
         }
         all
     }
@@ -34,12 +35,11 @@ pub fn reconcile<P: Observations>(
 ) -> Result<bool, Refusal>
     ensures { Reconciling (meanings P.meaning piles.now) issuer.now holder.old holder.new result }
 {
-    let _ = transition(issuer.phase, Kind::Read)?;
-    let _ = transition(holder.phase, Kind::Open)?;
+    transition(issuer.phase, Kind::Read)?;
+    transition(holder.phase, Kind::Open)?;
     holder.begin(issuer.lines.terms());
     let all = holder.replay(piles);
-    let same = issuer.lines.as_slice() == holder.lines.as_slice();
-    Ok(all & same)
+    Ok(all && issuer.lines.as_slice() == holder.lines.as_slice())
 }
 
 // A coupon opened and accrued over one pile, held against a restated one, wound back and accrued anew over that. The two piles may

@@ -1,31 +1,21 @@
-use Rattle.std.proofs.Common.{Some, Err, refl, ap, ◌∙◌}
-use Rattle.quantity.specs.Refusals.{told}
-use Rattle.std.proofs.lemmas.Result.{err_from_is_err_and}
+use Rattle.std.proofs.Common.{refl}
+use Rattle.account.specs.Replies.{accrue_answer}
 use Rattle.account.specs.Tally.{accrue}
-use Rattle.account.proofs.Calls.{accrue_done, accrue_fits, accrue_kept, accrue_refused}
-use Rattle.account.proofs.Made.{phase_refused}
+use Rattle.account.proofs.Calls.{accrue_done, accrue_refused}
+use Rattle.account.proofs.Made.{refused_by, refused_phase}
 use Rattle.account.proofs.account.Account.accrue.Goals as goal
 
 pub returns-in_err-phase : goal.returns-in_err-phase
 returns-in_err-phase g c =
-    let p = err_from_is_err_and c.from_residual.result c.from_residual.ensures.1 in
-    rw p.1 (phase_refused (accrue (g.P.Observations.meaning c.args.pile.now)) c.args.self.now (told p.0) (ap (λ e. Err (told e)) p.2 ∙ c.in_err-phase.ensures))
-
-pub invariant_of-self : goal.invariant_of-self
-invariant_of-self g c =
-    let h = c.in_err-accrue.ensures in
-    record { fitting = accrue_kept c.args.self.now (g.P.Observations.meaning c.args.pile.now) c.in_ok-phase.phase c.accrue.new.self c.in_ok-phase.ensures h.took _ h.judged }
+    refused_phase (accrue (g.P.Observations.meaning c.args.pile.now)) c.args.self.now accrue_answer (λ _. refl) c.from_residual.result _ c.from_residual.ensures.1 c.in_err-phase.ensures
 
 pub returns-in_err-accrue : goal.returns-in_err-accrue
 returns-in_err-accrue g c =
-    let p = err_from_is_err_and c.from_residual-in_err-accrue.result c.from_residual-in_err-accrue.ensures.1 in
+    let a = c.args.self.now in
+    let m = g.P.Observations.meaning c.args.pile.now in
     let h = c.in_err-accrue.ensures in
-    rw p.1 (accrue_refused c.args.self.now (g.P.Observations.meaning c.args.pile.now) c.in_ok-phase.phase c.accrue.new.self c.in_ok-phase.ensures h.took (told p.0) (ap (λ e. Some (told e)) p.2 ∙ h.judged) _ refl refl)
-
-pub invariant_of-self-2 : goal.invariant_of-self-2
-invariant_of-self-2 g c =
-    let h = c.in_ok-accrue.ensures in
-    record { fitting = accrue_fits c.args.self.now (g.P.Observations.meaning c.args.pile.now) c.in_ok-phase.phase c.accrue.new.self c.in_ok-phase.ensures h.took h.judged }
+    refused_by (accrue m) a accrue_answer (λ _. refl) _ c.from_residual-in_err-accrue.result _ c.from_residual-in_err-accrue.ensures.1
+    (accrue_refused a m c.in_ok-phase.phase c.accrue.new.self c.in_ok-phase.ensures h.took _ h.judged _ refl refl)
 
 pub returns : goal.returns
 returns g c =

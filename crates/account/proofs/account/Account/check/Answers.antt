@@ -1,15 +1,13 @@
-use Rattle.std.proofs.Common.{Err, ap, ◌∙◌}
-use Rattle.quantity.specs.Refusals.{told}
-use Rattle.std.proofs.lemmas.Result.{err_from_is_err_and}
-use Rattle.account.specs.Tally.{check}
-use Rattle.account.proofs.Calls.{check_done}
-use Rattle.account.proofs.Made.{phase_refused}
+use Rattle.std.proofs.Common.{refl}
+use Rattle.account.specs.Replies.{check_answer}
+use Rattle.account.specs.Tally.{agrees, check}
+use Rattle.account.proofs.Made.{read_done, refused_phase}
 use Rattle.account.proofs.account.Account.check.Goals as goal
 
 pub returns-in_err-transition : goal.returns-in_err-transition
 returns-in_err-transition g c =
-    let p = err_from_is_err_and c.from_residual.result c.from_residual.ensures.1 in
-    rw p.1 (phase_refused (check (g.P.Observations.meaning c.args.pile.now)) c.args.self.now (told p.0) (ap (λ e. Err (told e)) p.2 ∙ c.in_err-transition.ensures))
+    refused_phase (check (g.P.Observations.meaning c.args.pile.now)) c.args.self.now check_answer (λ _. refl) c.from_residual.result _ c.from_residual.ensures.1 c.in_err-transition.ensures
 
 pub returns : goal.returns
-returns g c = check_done c.args.self.now c.in_ok-transition.field-0 (g.P.Observations.meaning c.args.pile.now) c.in_ok-transition.ensures c.check.result c.check.ensures
+returns g c =
+    read_done (check (g.P.Observations.meaning c.args.pile.now)) c.args.self.now check_answer (λ _. refl) agrees c.in_ok-transition.field-0 _ (λ _. refl) refl refl c.in_ok-transition.ensures c.check.result c.check.ensures

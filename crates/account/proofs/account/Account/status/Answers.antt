@@ -1,16 +1,13 @@
-use Rattle.std.proofs.Common.{Err, ap, ◌∙◌}
-use Rattle.quantity.specs.Refusals.{told}
-use Rattle.std.proofs.lemmas.Result.{err_from_is_err_and}
+use Rattle.std.proofs.Common.{refl, ap}
 use Rattle.coupon.specs.declared.terms.Terms.{Terms}
+use Rattle.account.specs.Replies.{status_answer}
 use Rattle.account.specs.Tally.{status}
 use Rattle.account.proofs.Calls.{status_done}
-use Rattle.account.proofs.Made.{phase_refused}
+use Rattle.account.proofs.Made.{refused_phase}
 use Rattle.account.proofs.account.Account.status.Goals as goal
 
 pub returns-in_err-transition : goal.returns-in_err-transition
-returns-in_err-transition c =
-    let p = err_from_is_err_and c.from_residual.result c.from_residual.ensures.1 in
-    rw p.1 (phase_refused status c.args.self.now (told p.0) (ap (λ e. Err (told e)) p.2 ∙ c.in_err-transition.ensures))
+returns-in_err-transition c = refused_phase status c.args.self.now status_answer (λ _. refl) c.from_residual.result _ c.from_residual.ensures.1 c.in_err-transition.ensures
 
 pub returns : goal.returns
 returns c =
