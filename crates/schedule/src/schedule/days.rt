@@ -8,7 +8,6 @@ use crate::schedule::Schedule;
 use quantity::date::Date;
 use quantity::days::DayCount;
 use quantity::position::Position;
-use std::array;
 
 impl Schedule {
     // The schedule that a place begins with: 66 consecutive days from 2000-01-01, of which one accrues.
@@ -16,7 +15,11 @@ impl Schedule {
         ensures length { result.n ≡ 1 }
         ensures days { (k : ℕ) → k < 465 → at result.days k ≡ min k 65 }
     {
-        let days = array::from_fn(|k| Date::new(k.min(65) as u32).unwrap());
+        // a loop, since `array::from_fn` takes over twice as long
+        let mut days = [Date::first(); 465];
+        for k in 0..465u32 {
+            days[k as usize] = Date::new(k.min(65)).unwrap();
+        }
         Schedule { days, n: 1 }
     }
 

@@ -12,21 +12,21 @@ overflow_mul-interest c = yearly_fits c.args.principal.cents (c.args.rate.places
 
 pub overflow_mul-interest-2 : goal.overflow_mul-interest-2
 overflow_mul-interest-2 c =
-    interest_fits c.args.base c.args.principal.cents c.args.days.days c.args.rate.places c.args.margin.places c.from-2.result c.from-3.result c.from-4.result c.args.principal.most (omega (arith, ints)) (omega arith) (cc) (omega (arith, ints)) (cc)
+    interest_fits c.args.base c.args.principal.cents c.args.days.days c.args.rate.places c.args.margin.places c.from-2.result c.from-3.result c.from-4.result c.args.principal.most (omega (arith, ints)) (omega arith) (cc) (omega (arith, ints)) (omega (arith, ints))
 
 pub nearest_div-requires-clause-room : goal.nearest_div-requires-clause-room
 nearest_div-requires-clause-room c =
-    interest_room c.args.base c.args.principal.cents c.args.days.days c.args.rate.places c.args.margin.places c.from-2.result c.from-3.result c.from-4.result c.args.principal.most (omega (arith, ints)) (omega arith) (cc) (omega (arith, ints)) (cc)
+    interest_room c.args.base c.args.principal.cents c.args.days.days c.args.rate.places c.args.margin.places c.from-2.result c.from-3.result c.from-4.result c.args.principal.most (omega (arith, ints)) (omega arith) (cc) (omega (arith, ints)) (omega (arith, ints))
 
 pub overflow_cast-result : goal.overflow_cast-result
 overflow_cast-result c =
-    let a = amount_is c.args.base c.args.principal.cents c.args.days.days c.args.rate.places c.args.margin.places c.from-2.result c.from-3.result c.from-4.result c.args.principal.most (omega (arith, ints)) (omega arith) (cc) (omega (arith, ints)) (cc)
+    let a = amount_is c.args.base c.args.principal.cents c.args.days.days c.args.rate.places c.args.margin.places c.from-2.result c.from-3.result c.from-4.result c.args.principal.most (omega (arith, ints)) (omega arith) (cc) (omega (arith, ints)) (omega (arith, ints))
     c.from-5.result _ (cc) c.nearest_div.ensures in
     omega (arith, ints, a.1)
 
 pub returns : goal.returns
 returns c =
-    let a = amount_is c.args.base c.args.principal.cents c.args.days.days c.args.rate.places c.args.margin.places c.from-2.result c.from-3.result c.from-4.result c.args.principal.most (omega (arith, ints)) (omega arith) (cc) (omega (arith, ints)) (cc)
+    let a = amount_is c.args.base c.args.principal.cents c.args.days.days c.args.rate.places c.args.margin.places c.from-2.result c.from-3.result c.from-4.result c.args.principal.most (omega (arith, ints)) (omega arith) (cc) (omega (arith, ints)) (omega (arith, ints))
     c.from-5.result _ (cc) c.nearest_div.ensures in
     let e : to_z w64 (of_z w64 (to_z w128 (of_z w128 c.nearest_div.result))) ≡ c.nearest_div.result = omega (arith, ints, a.1) in
     let small : SmallAmount c.nearest_div.result = record { least = omega (arith, ints, a.1); most = omega (arith, ints, a.1) } in
