@@ -124,8 +124,8 @@ impl<'a> Fields<'a> {
         matches!(contents, [hi, lo] if usize::from(u16::from_be_bytes([*hi, *lo])) == self.count)
     }
 
-    // One more fixing, or none at the end of the file. A refusal leaves the reader where it stands. Inlined: a call for each field would
-    // take nearly twice the instructions.
+    // One more fixing, or none at the end of the file. A refusal leaves the reader where it stands. Inlined: with a call for
+    // each field, reading a file takes over half as many instructions again.
     #[tactic(auto, unfolding(crate::specs::Files::verdict, crate::specs::Files::end_in))]
     #[inline(always)]
     pub(crate) fn read_next(&mut self) -> Result<Option<Fixing>, Refusal>
